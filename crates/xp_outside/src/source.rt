@@ -1,0 +1,329 @@
+// Where bytes come from.
+ghost use Rattle.std.specs.Prelude.{◌≡◌, ◌↔◌, ℕ, ◌<◌, ◌≤◌, ◌+◌, ◌-◌, ◌^◌, ◌++◌, List, [], length, take, drop, min, Option, Some, Ok, IfOk, OnOk, OnErr, IsErr, IsErrOf, Contains};
+ghost use Rattle.std.specs.Io.{ReadsAtMost};
+ghost use Rattle.std.specs.Io.KnownBytes.{ReadConsumes, Consumes, IsAtEnd};
+ghost use Rattle.xp_outside.specs.Causes.{Rose, HasCause};
+ghost use Rattle.xp_outside.specs.InMemory.{next_call};
+
+use std::alloc::Global;
+use std::marker::Model;
+
+/// A read failed. Its source has counted the fault, and has as many bytes left as before.
+#[derive(Clone, Copy, Debug, PartialEq, Eq)]
+pub struct Failed {}
+
+/// Where bytes come from. It gives them in their order, each once, in pieces of its own choice.
+pub trait Source {
+    /// The bytes that are left, where it tells them.
+    ghost left: { Self → Option (List ℕ) };
+
+    /// How often it has failed.
+    ghost faults: { Self → ℕ };
+
+    /// Moves the next bytes to the front of a piece, and says how many. None, for a piece that isn't empty, is the end
+    /// of the input. What the rest of the piece holds afterwards isn't said, nor what all of it holds after a failure.
+    fn read(&mut self, into: &mut [u8]) -> Result<usize, Failed>
+        requires { faults self.old < 2 ^ 64 - 1 }
+        ensures bound { ReadsAtMost result into.new }
+        ensures bytes { ReadConsumes (left self.old) (left self.new) result into.new }
+        ensures cause { HasCause (faults self.old) (faults self.new) result };
+}
+
+/// Why `read_all` gave no bytes.
+#[derive(Clone, Copy, Debug, PartialEq, Eq)]
+pub enum ReadError {
+    /// A read failed; it was the last one.
+    Failed,
+    /// There are more bytes than the limit. One byte past it was read, and no more.
+    TooLong,
+    /// No memory for the bytes.
+    Memory,
+}
+
+/// How many bytes a single read asks for at most.
+const PIECE: usize = 4096;
+
+/// All bytes of a source, where they are no more than a limit, in bytes. After an error the bytes that were read are lost.
+pub fn read_all<S: Source>(
+    alloc: Global,
+    source: &mut S,
+    limit: usize,
+) -> Result<Vec<u8>, ReadError>
+    requires limit { limit < 2 ^ 32 }
+    requires below { S.faults source.old < 2 ^ 64 - 1 }
+
+    // At Ok the source was read to its end, and gave these bytes.
+    ensures whole { IfOk result (λ bytes. Consumes (S.left source.old) (S.left source.new) bytes.items) }
+    ensures end { OnOk result (IsAtEnd (S.left source.new)) }
+    ensures within { IfOk result (λ bytes. length bytes.items ≤ limit) }
+
+    // Past the limit exactly one byte was read.
+    ensures long { IsErrOf result ReadError.TooLong → (bytes : List ℕ)
+        × Consumes (S.left source.old) (S.left source.new) bytes × (length bytes ≡ limit + 1) }
+
+    // After any other error some bytes were read, at most as many.
+    ensures front { OnErr result ((bytes : List ℕ)
+        × Consumes (S.left source.old) (S.left source.new) bytes × (length bytes ≤ limit + 1)) }
+
+    // A fault has its cause, and every other answer leaves the count.
+    ensures later { S.faults source.old ≤ S.faults source.new }
+    ensures failed { IsErrOf result ReadError.Failed → Rose (S.faults source.old) (S.faults source.new) }
+    ensures kept { OnOk result (S.faults source.new ≡ S.faults source.old) }
+    ensures kept_too_long { IsErrOf result ReadError.TooLong → S.faults source.new ≡ S.faults source.old }
+    ensures kept_memory { IsErrOf result ReadError.Memory → S.faults source.new ≡ S.faults source.old }
+{
+    let mut bytes = Vec::new(alloc);
+    let mut piece = [0u8; PIECE];
+    for _turn in 0..=limit {
+        let room = limit + 1 - bytes.len();
+        let most = room.min(PIECE);
+        let count = match source.read(&mut piece[..most]) {
+            Ok(count) => count,
+            Err(_) => return Err(ReadError::Failed),
+        };
+        if count == 0 {
+            return Ok(bytes);
+        }
+        match bytes.extend_from_slice(&piece[..count]) {
+            Ok(()) => {}
+            Err(_) => return Err(ReadError::Memory),
+        }
+        if bytes.len() > limit {
+            return Err(ReadError::TooLong);
+        }
+    }
+    Err(ReadError::TooLong)
+}
+
+// Moves the bytes from a place on to the front of a piece, at most so many, and says how many.
+fn give(bytes: &[u8], given: usize, most: usize, into: &mut [u8]) -> usize
+    requires { given ≤ length bytes.now }
+    ensures bound { result ≤ length into.new }
+    ensures count { result ≡ min most (min (length bytes.now - given) (length into.old)) }
+    ensures moved { drop given bytes.now ≡ take result into.new ++ drop (given + result) bytes.now }
+    ensures none { 0 < most → result ≡ 0 → 0 < length into.new → drop (given + result) bytes.now ≡ [] }
+{
+    let count = most.min((bytes.len() - given).min(into.len()));
+    into[..count].copy_from_slice(&bytes[given..given + count]);
+    count
+}
+
+/// A source in memory whose pieces have at most some length, and some of whose calls fail, as a test wants them.
+#[derive(Drop)]
+pub struct MemorySource {
+    bytes: Vec<u8>,
+    given: usize,
+    largest: usize,
+    failing: Vec<u64>,
+    calls: u64,
+    faults: u64,
+}
+
+impl Model for MemorySource {
+    ghost use Rattle.std.specs.Prelude.{length, drop, ◌≤◌};
+    ghost use Rattle.xp_outside.specs.InMemory.{SourceState};
+
+    ghost Value = { SourceState };
+
+    ghost view = { λ s. record { left = drop s.given s.bytes.items; largest = s.largest; failing = s.failing.items; calls = s.calls; faults = s.faults } };
+
+    ghost invariant = { λ s. (s.given ≤ length s.bytes.items) × (1 ≤ s.largest) };
+}
+
+impl MemorySource {
+    /// A source of these bytes. `failing` has the numbers of the calls that fail; the first call has number 1.
+    pub fn new(bytes: Vec<u8>, largest: usize, failing: Vec<u64>) -> MemorySource
+        requires { 1 ≤ largest }
+        ensures left { result.left ≡ bytes.items }
+        ensures largest { result.largest ≡ largest }
+        ensures failing { result.failing ≡ failing.items }
+        ensures calls { result.calls ≡ 0 }
+        ensures faults { result.faults ≡ 0 }
+    {
+        MemorySource {
+            bytes,
+            given: 0,
+            largest,
+            failing,
+            calls: 0,
+            faults: 0,
+        }
+    }
+}
+
+impl Source for MemorySource {
+    ghost left = { λ s. Some s.left };
+
+    ghost faults = { λ s. s.faults };
+
+    fn read(&mut self, into: &mut [u8]) -> Result<usize, Failed>
+        requires { self.old.faults < 2 ^ 64 - 1 }
+        ensures bound { ReadsAtMost result into.new }
+        ensures bytes { ReadConsumes (Some self.old.left) (Some self.new.left) result into.new }
+        ensures cause { HasCause self.old.faults self.new.faults result }
+
+        // The calls whose numbers were given fail, each once, and no others.
+        ensures fails { IsErr result ↔ Contains self.old.failing (next_call self.old.calls) }
+        ensures fault { OnErr result (self.new.faults ≡ self.old.faults + 1) }
+        ensures count { IfOk result (λ n. n ≡ min self.old.largest (min (length self.old.left) (length into.old))) }
+        ensures call { self.new.calls ≡ next_call self.old.calls }
+        ensures failing { self.new.failing ≡ self.old.failing }
+        ensures largest { self.new.largest ≡ self.old.largest }
+    {
+        self.calls = self.calls.saturating_add(1);
+        if self.failing.contains(&self.calls) {
+            self.faults += 1;
+            return Err(Failed {});
+        }
+        let count = give(&self.bytes, self.given, self.largest, into);
+        self.given += count;
+        Ok(count)
+    }
+}
+
+/// A source in memory that gives as much as a piece has room for, and never fails.
+#[derive(Drop)]
+pub struct WholeSource {
+    bytes: Vec<u8>,
+    given: usize,
+}
+
+impl Model for WholeSource {
+    ghost use Rattle.std.specs.Prelude.{List, ℕ, length, drop, ◌≤◌};
+
+    ghost Value = { List ℕ };
+
+    ghost view = { λ s. drop s.given s.bytes.items };
+
+    ghost invariant = { λ s. s.given ≤ length s.bytes.items };
+}
+
+impl WholeSource {
+    /// A source of these bytes.
+    pub fn new(bytes: Vec<u8>) -> WholeSource
+        ensures { result ≡ bytes.items }
+    {
+        WholeSource { bytes, given: 0 }
+    }
+}
+
+impl Source for WholeSource {
+    ghost left = { λ s. Some s };
+
+    ghost faults = { λ s. 0 };
+
+    fn read(&mut self, into: &mut [u8]) -> Result<usize, Failed>
+        ensures bound { ReadsAtMost result into.new }
+        ensures bytes { ReadConsumes (Some self.old) (Some self.new) result into.new }
+        ensures cause { HasCause 0 0 result }
+        ensures count { result ≡ Ok (min (length self.old) (length into.old)) }
+    {
+        let most = into.len();
+        let count = give(&self.bytes, self.given, most, into);
+        self.given += count;
+        Ok(count)
+    }
+}
+
+#[cfg(test)]
+pub(crate) mod tests {
+    use super::*;
+    use std::alloc::AllocError;
+    use std::test::Fail;
+
+    // The bytes 0, 1, 2 and so on.
+    pub fn text_of(alloc: Global, len: u8) -> Result<Vec<u8>, AllocError> {
+        let mut text = Vec::new(alloc);
+        for byte in 0..len {
+            text.push(byte)?;
+        }
+        Ok(text)
+    }
+
+    // Pieces of 1, 7 and 64 bytes, each read failing in turn, the one at the end of the input too. The read that failed
+    // is the last, and took nothing: reading again gives the rest.
+    #[test]
+    fn each_read_fails_in_turn(rt: HostRuntime) -> Result<(), Fail> {
+        let text = text_of(rt.alloc(), 130)?;
+        for (largest, calls) in [(1usize, 131u32), (7, 20), (64, 4)] {
+            assert!(rt; largest >= 1);
+            for failing in 1..=calls {
+                let numbers = vec![in rt.alloc(); u64::from(failing)]?;
+                let mut source = MemorySource::new(text.clone()?, largest, numbers);
+                let answer = read_all(rt.alloc(), &mut source, 130);
+                assert_eq!(rt;
+                    answer.err(),
+                    Some(ReadError::Failed),
+                    "read {failing} of {largest} bytes"
+                );
+                assert_eq!(rt; source.calls, u64::from(failing));
+                assert_eq!(rt; source.faults, 1);
+                let rest = read_all(rt.alloc(), &mut source, 130)
+                    .ok()
+                    .ok_or("the rest is read")?;
+                let before = largest.saturating_mul(failing as usize - 1).min(130);
+                assert_eq!(rt; rest.len() + before, 130);
+                assert!(rt; text.ends_with(&rest));
+            }
+            let numbers = vec![in rt.alloc(); u64::from(calls) + 1]?;
+            let mut source = MemorySource::new(text.clone()?, largest, numbers);
+            let bytes = read_all(rt.alloc(), &mut source, 130)
+                .ok()
+                .ok_or("no read fails")?;
+            assert_eq!(rt;
+                bytes.as_slice(),
+                text.as_slice(),
+                "{calls} reads of {largest} bytes"
+            );
+        }
+        Ok(())
+    }
+
+    // Over a whole source a read never fails.
+    fn read_whole(alloc: Global, bytes: Vec<u8>, limit: usize) -> Result<Vec<u8>, ReadError>
+        requires { limit < 2 ^ 32 }
+        ensures bytes { IfOk result (λ read. read.items ≡ bytes.items) }
+        ensures never_failed { IsErrOf result ReadError.Failed → ⊥ }
+        ensures long { IsErrOf result ReadError.TooLong → limit < length bytes.items }
+    {
+        let mut source = WholeSource::new(bytes);
+        read_all(alloc, &mut source, limit)
+    }
+
+    // As many bytes as the limit are read, in more pieces than one too, and one more isn't.
+    #[test]
+    fn the_limit_is_exact(rt: HostRuntime) -> Result<(), Fail> {
+        for (len, limit, is_read) in [
+            (0, 0, true),
+            (1, 0, false),
+            (5, 5, true),
+            (6, 5, false),
+            (9000, 9000, true),
+            (9000, 8999, false),
+        ] {
+            assert!(rt; limit <= 9000);
+            let bytes = vec![in rt.alloc(); 7; len]?;
+            match read_whole(rt.alloc(), bytes, limit) {
+                Ok(read) => assert!(rt; is_read && read.len() == len, "{len} bytes at {limit}"),
+                Err(error) => {
+                    assert!(rt; !is_read, "{len} bytes at {limit}");
+                    assert_eq!(rt; error, ReadError::TooLong);
+                }
+            }
+        }
+        Ok(())
+    }
+
+    // Past the limit one byte is read.
+    #[test]
+    fn one_byte_past_the_limit(rt: HostRuntime) -> Result<(), Fail> {
+        let mut source = WholeSource::new(text_of(rt.alloc(), 10)?);
+        let answer = read_all(rt.alloc(), &mut source, 5);
+        assert_eq!(rt; answer.err(), Some(ReadError::TooLong));
+        let rest = read_all(rt.alloc(), &mut source, 5)
+            .ok()
+            .ok_or("four bytes are left")?;
+        assert_eq!(rt; rest.as_slice(), [6, 7, 8, 9].as_slice());
+        Ok(())
+    }
+}
