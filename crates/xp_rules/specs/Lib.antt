@@ -1,0 +1,14 @@
+pub mod Setup
+pub mod Records
+pub mod Sending
+pub mod Pulling
+pub mod State
+pub mod Rules
+pub mod Decode
+pub mod Acts
+pub mod Runs
+pub mod Logged
+pub mod Scenario
+pub mod Reached
+pub mod Windows
+pub mod Promised

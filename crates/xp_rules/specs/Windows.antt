@@ -1,0 +1,93 @@
+-- What a partition owes within a window of 1,024 turns, said of its finished list of turns: whatever the memory answers, nothing that is due waits longer.
+-- No step is asked for a partner in a window in which a reason to deactivate it stands.
+use Rattle.std.specs.Prelude.{◌≡◌, ℕ, ◌+◌, ◌<◌, ◌≤◌, Bool, true, false, ◌||◌, List, [], ◌∷◌, ◌++◌, length, Some, None, IsSome, ◌⊎◌}
+use Rattle.xp_base.specs.History.{Act, Begun, Answered, Marked, Turn}
+use Rattle.xp_rules.specs.declared.commands.Command.TheVariants.{Send, Take}
+use Rattle.xp_rules.specs.declared.rule.RingRule.{RingRule}
+use Rattle.xp_rules.specs.declared.rule.RingRule.TheVariants.{ReadGet, WriteEntryWord, AcceptMessage}
+use Rattle.xp_rules.specs.declared.rule.PullRule.{PullRule}
+use Rattle.xp_rules.specs.declared.rule.PullRule.TheVariants.{ReadCounters, ReadEntry}
+use Rattle.xp_rules.specs.declared.rule.Rule.{Rule}
+use Rattle.xp_rules.specs.declared.rule.Rule.TheVariants.{Ring, Pull, Acknowledge}
+use Rattle.xp_rules.specs.declared.setup.Setup.{Setup}
+use Rattle.xp_rules.specs.State.{State, End, start, end_of, engage_of}
+use Rattle.xp_rules.specs.Decode.{rule_of}
+use Rattle.xp_rules.specs.Acts.{current, due, after_acts}
+use Rattle.xp_rules.specs.Runs.{after_turn, state_after}
+
+-- a turn begins a command; it answers one
+abbrev pub begins : List Act → Bool
+begins [] = false
+begins (Begun ∷ more) = true
+begins (Answered ∷ more) = begins more
+
+abbrev pub answers : List Act → Bool
+answers [] = false
+answers (Begun ∷ more) = answers more
+answers (Answered ∷ more) = true
+
+-- one of some turns is such a one, said of the state right before it
+abbrev pub SomeTurn : (State → Turn → Type 0) → Setup → State → List Turn → Type 0
+SomeTurn E s st [] = ⊥
+SomeTurn E s st (t ∷ ts) = E st t ⊎ SomeTurn E s (after_turn s st t) ts
+
+-- before each of some turns and after the last one this holds
+abbrev pub Throughout : (State → Type 0) → Setup → State → List Turn → Type 0
+Throughout C s st [] = C st
+Throughout C s st (t ∷ ts) = C st × Throughout C s (after_turn s st t) ts
+
+-- the turn makes a step, by a rule of which this holds in the state right before the step
+pub record Steps (E : State → Rule → Type 0) (s : Setup) (st : State) (t : Turn) : Type 0 where
+  pub step : Marked
+  pub made : t.made ≡ Some step
+  pub rule : Rule
+  pub decoded : rule_of s step.step.op step.mark ≡ Some rule
+  pub is : E (after_acts s st t.before) rule
+
+-- no reason to deactivate partner q stands
+abbrev pub IsFree : ℕ → State → Type 0
+IsFree q st = (engage_of st q).reason ≡ None
+
+-- a send stores a word where there is room by a get that was loaded, and else it loads get
+abbrev pub sends_on : End → RingRule → Type 0
+sends_on e ReadGet = e.send.loaded ≡ true → e.send.known + e.send.entries ≤ e.send.put
+sends_on e (WriteEntryWord f) = Unit {0}
+sends_on e AcceptMessage = Unit {0}
+
+abbrev pub SendsOn : ℕ → ℕ → State → Rule → Type 0
+SendsOn q c st (Ring q' c' m) = (q' ≡ q) × (c' ≡ c) × sends_on (end_of st q c) m
+SendsOn q c st (Pull q' c' m) = ⊥
+SendsOn q c st (Acknowledge q' c') = ⊥
+
+-- a take loads a word of the next entry where one is there, and else it loads put, the second word of the counters
+abbrev pub takes_on : End → PullRule → Type 0
+takes_on e ReadCounters = IsSome e.pull.counters
+takes_on e ReadEntry = e.pull.pulled < e.pull.pulled_put
+
+abbrev pub TakesOn : ℕ → ℕ → State → Rule → Type 0
+TakesOn q c st (Ring q' c' m) = ⊥
+TakesOn q c st (Pull q' c' m) = (q' ≡ q) × (c' ≡ c) × takes_on (end_of st q c) m
+TakesOn q c st (Acknowledge q' c') = ⊥
+
+abbrev pub Acknowledges : ℕ → ℕ → State → Rule → Type 0
+Acknowledges q c st (Ring q' c' m) = ⊥
+Acknowledges q c st (Pull q' c' m) = ⊥
+Acknowledges q c st (Acknowledge q' c') = (q' ≡ q) × (c' ≡ c)
+
+-- the command in progress has no answer yet, and its end is connected
+pub record IsGoing (s : Setup) (st : State) (q c : ℕ) : Type 0 where
+  pub doing : st.script.doing ≡ true
+  pub undue : due s st ≡ None
+  pub warm : (end_of st q c).warm ≡ true
+
+-- what is owed of the turns of a window that begins in this state
+pub record Owed (s : Setup) (st : State) (window : List Turn) : Type 0 where
+  pub begins : st.script.doing ≡ false → st.script.begun < length s.script → SomeTurn (λ x t. (begins t.before || begins t.after) ≡ true) s st window
+  pub answers : IsSome (due s st) → SomeTurn (λ x t. (answers t.before || answers t.after) ≡ true) s st window
+  pub sends : (q c : ℕ) (payload : List ℕ) (wait : Bool) → current s st ≡ Some (Send q c payload wait) → IsGoing s st q c → Throughout (IsFree q) s st window → SomeTurn (Steps (SendsOn q c) s) s st window
+  pub takes : (q c : ℕ) → current s st ≡ Some (Take q c) → IsGoing s st q c → Throughout (IsFree q) s st window → SomeTurn (Steps (TakesOn q c) s) s st window
+  pub acknowledges : (q c : ℕ) → (end_of st q c).warm ≡ true → (end_of st q c).stored < (end_of st q c).front → Throughout (IsFree q) s st window → SomeTurn (Steps (Acknowledges q c) s) s st window
+
+-- in each 1,024 consecutive turns what is owed is done
+abbrev pub Windows : Setup → List Turn → Type 0
+Windows s ts = (before window after : List Turn) → ts ≡ before ++ (window ++ after) → length window ≡ 1024 → Owed s (state_after s (start s) before) window
