@@ -1,0 +1,5 @@
+pub mod Fronts
+pub mod LineLemmas
+pub mod Numbers
+pub mod Rounds
+pub mod Lawful
