@@ -1,0 +1,17 @@
+pub mod Slots
+pub mod Words
+pub mod Parts
+pub mod Always
+pub mod Links
+pub mod Ring
+pub mod Direction
+pub mod Ends
+pub mod Lines
+pub mod Moves
+pub mod Opening
+pub mod Clean
+pub mod Released
+pub mod Reach
+pub mod Headline
+pub mod Sends
+pub mod Entries

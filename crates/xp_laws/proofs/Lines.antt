@@ -1,0 +1,283 @@
+-- All directions of all channels: one partition moves at one of its ends, and all other directions are as they were.
+use Rattle.std.proofs.Common.{◌≡◌, ℕ, zero, suc, ◌<◌, Bool, true, false, List, [], ◌∷◌, length, get_or, map, refl, ap, sym, ◌∙◌, subst, arith, Option, Some, inl, inr, ◌⊎◌}
+use Rattle.std.specs.List.{slice_get}
+use Rattle.std.proofs.lemmas.Bool.{cases_eq, ne_eqb}
+use Rattle.std.proofs.lemmas.List.{length-map}
+use Rattle.std.proofs.lemmas.Option.{slice_get_within}
+use Rattle.xp_base.specs.declared.answer.TakeAnswer.TheVariants.{Taken}
+use Rattle.xp_base.specs.Places.{Place, Counter, Entry}
+use Rattle.xp_rules.specs.declared.log.LogAnswer.{LogAnswer}
+use Rattle.xp_rules.specs.declared.log.LogAnswer.TheVariants.{Take as TakeAnswered}
+use Rattle.xp_rules.specs.declared.setup.Link.{Link}
+use Rattle.xp_rules.specs.declared.scenario.Scenario.{Scenario}
+use Rattle.xp_rules.specs.Scenario.{setup_of, links_of, IsLawful}
+use Rattle.xp_rules.specs.State.{End, start, end_of, end_at, set_end}
+use Rattle.xp_rules.specs.Records.{Recorded, opened_record, update_at}
+use Rattle.xp_laws.proofs.Words.{Words}
+use Rattle.xp_laws.proofs.Parts.{Part}
+use Rattle.xp_laws.proofs.Always.{at_one, one_here}
+use Rattle.xp_laws.proofs.Links.{HasLink, line, mirror, mirrored}
+use Rattle.xp_laws.proofs.Ends.{Other, start_warm, start_end, end_other, end_here, stays_end}
+use Rattle.xp_laws.proofs.Direction.{Out, In, Kept}
+
+-- an answer that takes a message; none is decided before it is due
+abbrev pub takes : Option LogAnswer → Bool
+takes (Some (TakeAnswered (Taken number body))) = true
+takes a = false
+
+-- a record of a list
+abbrev pub blank_record : Recorded
+blank_record = opened_record (record { partner = 0; channel = 0; entries = 1; limit = 0 })
+
+abbrev pub recorded : List Recorded → ℕ → Recorded
+recorded rs n = get_or rs n blank_record
+
+pub update_here : (rs : List Recorded) (n : ℕ) (f : Recorded → Recorded) → n < length rs → recorded (update_at rs n f) n ≡ f (recorded rs n)
+update_here [] n f l = absurd (omega arith)
+update_here (r ∷ rs) zero f l = refl
+update_here (r ∷ rs) (suc n) f l = update_here rs n f (omega arith)
+
+pub update_other : (rs : List Recorded) (n j : ℕ) (f : Recorded → Recorded) → (j ≡ n → ⊥) → recorded (update_at rs n f) j ≡ recorded rs j
+update_other [] n j f d = refl
+update_other (r ∷ rs) zero zero f d = absurd (d refl)
+update_other (r ∷ rs) zero (suc j) f d = refl
+update_other (r ∷ rs) (suc n) zero f d = refl
+update_other (r ∷ rs) (suc n) (suc j) f d = update_other rs n j f (λ e. d (ap suc e))
+
+pub update_nothing : (rs : List Recorded) (n : ℕ) (f : Recorded → Recorded) → ((r : Recorded) → f r ≡ r) → update_at rs n f ≡ rs
+update_nothing [] n f h = refl
+update_nothing (r ∷ rs) zero f h = ap (λ (x : Recorded). x ∷ rs) (h r)
+update_nothing (r ∷ rs) (suc n) f h = ap (λ (xs : List Recorded). r ∷ xs) (update_nothing rs n f h)
+
+-- what of a record never changes
+abbrev pub strip : Recorded → Recorded
+strip r = record r { accepted = []; taken = []; acked = 0 }
+
+pub update_names : (rs : List Recorded) (n : ℕ) (f : Recorded → Recorded) → ((r : Recorded) → strip (f r) ≡ strip r) → map strip (update_at rs n f) ≡ map strip rs
+update_names [] n f h = refl
+update_names (r ∷ rs) zero f h = ap (λ (x : Recorded). x ∷ map strip rs) (h r)
+update_names (r ∷ rs) (suc n) f h = ap (λ (xs : List Recorded). strip r ∷ xs) (update_names rs n f h)
+
+-- the views of one end of a partition: what it sends, and what it receives
+abbrev pub out_by : (Place → ℕ) → List Recorded → End → ℕ → ℕ → Out
+out_by w rs e q c = record { send = e.send; accepted = (recorded rs e.record_number).accepted; put = w (Counter q c 1); entry = λ k f. w (Entry q c k f) }
+
+abbrev pub in_by : (Place → ℕ) → List Recorded → End → ℕ → ℕ → In
+in_by w rs e q c = record { pull = e.pull; front = e.front; stored = e.stored; taken = (recorded rs e.record_number).taken; acked = (recorded rs e.record_number).acked; get = w (Counter q c 0) }
+
+abbrev pub out_at : (Place → ℕ) → Part → ℕ → ℕ → Out
+out_at w k q c = out_by w k.logged.records (end_of k.state q c) q c
+
+abbrev pub in_at : (Place → ℕ) → Part → ℕ → ℕ → In
+in_at w k q c = in_by w k.logged.records (end_of k.state q c) q c
+
+module _ (s : Scenario) (law : IsLawful s) where
+  -- what of a partition never changes
+  pub record Fixed (p : ℕ) (k : Part) : Type 0 where
+    pub warm : (q c : ℕ) → (end_of k.state q c).warm ≡ (end_of (start (setup_of s p)) q c).warm
+    pub number : (q c : ℕ) → (end_of k.state q c).record_number ≡ (end_of (start (setup_of s p)) q c).record_number
+    pub names : map strip k.logged.records ≡ map opened_record (links_of s p)
+
+  pub warm_link : (p q c : ℕ) (k : Part) → Fixed p k → (end_of k.state q c).warm ≡ true → (l : Link) × HasLink s p q c l
+  warm_link p q c k h w = start_warm s p q c (sym (h.warm q c) ∙ w)
+
+  pub link_warm : (p q c : ℕ) (l : Link) (k : Part) → Fixed p k → HasLink s p q c l → (end_of k.state q c).warm ≡ true
+  link_warm p q c l k h i = h.warm q c ∙ ap (λ (e : End). e.warm) (start_end s p q c l law i)
+
+  pub link_number : (p q c : ℕ) (l : Link) (k : Part) → Fixed p k → (i : HasLink s p q c l) → (end_of k.state q c).record_number ≡ i.number
+  link_number p q c l k h i = h.number q c ∙ ap (λ (e : End). e.record_number) (start_end s p q c l law i)
+
+  records_count : (p : ℕ) (k : Part) → Fixed p k → length k.logged.records ≡ length (links_of s p)
+  records_count p k h = let e = ap length h.names in simp length-map at e
+
+  pub number_low : (p q c : ℕ) (l : Link) (k : Part) → Fixed p k → HasLink s p q c l → (end_of k.state q c).record_number < length k.logged.records
+  number_low p q c l k h i = omega (arith, link_number p q c l k h i, records_count p k h, slice_get_within (links_of s p) i.number l i.listed)
+
+  pub number_other : (p q c b d : ℕ) (l m : Link) (k : Part) → Fixed p k → HasLink s p q c l → HasLink s p b d m → Other q c b d → (end_of k.state q c).record_number ≡ (end_of k.state b d).record_number → ⊥
+  number_other p q c b d l m k h i j other e =
+      let same : i.number ≡ j.number = sym (link_number p q c l k h i) ∙ e ∙ link_number p b d m k h j in
+      let both : Some l ≡ Some m = sym i.listed ∙ ap (slice_get (links_of s p)) same ∙ j.listed in
+      let one : l ≡ m = cc in
+      other (sym i.partner ∙ ap (λ (x : Link). x.partner) one ∙ j.partner) (sym i.channel ∙ ap (λ (x : Link). x.channel) one ∙ j.channel)
+
+  -- all directions
+  abbrev pub Ways : Words → (ℕ → Part) → Type 0
+  Ways w σ = (p q c : ℕ) (l : Link) → HasLink s p q c l → Kept (out_at (w p) (σ p) q c) (in_at (w q) (σ q) p c)
+
+  -- partition a moves at its end to b on channel d: its other ends are as they were
+  pub record Frame (a b d : ℕ) (w w' : Place → ℕ) (k k' : Part) : Type 0 where
+    pub outs : (q c : ℕ) (l : Link) → HasLink s a q c l → Other q c b d → out_at w' k' q c ≡ out_at w k q c
+    pub ins : (q c : ℕ) (l : Link) → HasLink s a q c l → Other q c b d → in_at w' k' q c ≡ in_at w k q c
+
+  module _ (w w' : Words) (σ : ℕ → Part) (a b d : ℕ) (k' : Part) (ways : Ways w σ)
+      (away : (p : ℕ) → (p ≡ a → ⊥) → (pl : Place) → w' p pl ≡ w p pl)
+      (frame : Frame a b d (w a) (w' a) (σ a) k')
+      (here : (l : Link) → HasLink s a b d l → Kept (out_at (w' a) k' b d) (in_at (w b) (σ b) a d) × Kept (out_at (w b) (σ b) a d) (in_at (w' a) k' b d)) where
+    kept_far : (p : ℕ) → (p ≡ a → ⊥) → at_one σ a k' p ≡ σ p
+    kept_far p n = rw (ne_eqb a p (λ e. n (sym e))) refl
+
+    out_far : (p q c : ℕ) → (p ≡ a → ⊥) → out_at (w' p) (at_one σ a k' p) q c ≡ out_at (w p) (σ p) q c
+    out_far p q c n = λ i. out_at (λ pl. away p n pl i) (kept_far p n i) q c
+
+    in_far : (p q c : ℕ) → (p ≡ a → ⊥) → in_at (w' p) (at_one σ a k' p) q c ≡ in_at (w p) (σ p) q c
+    in_far p q c n = λ i. in_at (λ pl. away p n pl i) (kept_far p n i) q c
+
+    -- the mover sends
+    sends : (q c : ℕ) (l : Link) → HasLink s a q c l → (q ≡ b) ⊎ (q ≡ b → ⊥) → (c ≡ d) ⊎ (c ≡ d → ⊥) → Kept (out_at (w' a) k' q c) (in_at (w q) (σ q) a c)
+    sends q c l i (inl e) (inl f) =
+        let H : ℕ → ℕ → Type 0 = λ x y. HasLink s a x y l in
+        let P : ℕ → ℕ → Type 0 = λ x y. Kept (out_at (w' a) k' x y) (in_at (w x) (σ x) a y) in
+        let j : HasLink s a b d l = subst (λ x. H x d) e (subst (λ y. H q y) f i) in
+        subst (λ x. P x c) (sym e) (subst (λ y. P b y) (sym f) (here l j).0)
+    sends q c l i (inl e) (inr n) = subst (λ (x : Out). Kept x (in_at (w q) (σ q) a c)) (sym (frame.outs q c l i (λ x y. n y))) (ways a q c l i)
+    sends q c l i (inr n) f = subst (λ (x : Out). Kept x (in_at (w q) (σ q) a c)) (sym (frame.outs q c l i (λ x y. n x))) (ways a q c l i)
+
+    -- the mover receives
+    receives : (p c : ℕ) (l m : Link) → HasLink s p a c l → HasLink s a p c m → (p ≡ b) ⊎ (p ≡ b → ⊥) → (c ≡ d) ⊎ (c ≡ d → ⊥) → Kept (out_at (w p) (σ p) a c) (in_at (w' a) k' p c)
+    receives p c l m i j (inl e) (inl f) =
+        let H : ℕ → ℕ → Type 0 = λ x y. HasLink s a x y m in
+        let P : ℕ → ℕ → Type 0 = λ x y. Kept (out_at (w x) (σ x) a y) (in_at (w' a) k' x y) in
+        let o : HasLink s a b d m = subst (λ x. H x d) e (subst (λ y. H p y) f j) in
+        subst (λ x. P x c) (sym e) (subst (λ y. P b y) (sym f) (here m o).1)
+    receives p c l m i j (inl e) (inr n) = subst (λ (x : In). Kept (out_at (w p) (σ p) a c) x) (sym (frame.ins p c m j (λ x y. n y))) (ways p a c l i)
+    receives p c l m i j (inr n) f = subst (λ (x : In). Kept (out_at (w p) (σ p) a c) x) (sym (frame.ins p c m j (λ x y. n x))) (ways p a c l i)
+
+    at_mover : (q c : ℕ) (l : Link) → HasLink s a q c l → Kept (out_at (w' a) (at_one σ a k' a) q c) (in_at (w' q) (at_one σ a k' q) a c)
+    at_mover q c l i =
+        let n : q ≡ a → ⊥ = λ e. (line s a q c l law i).apart (sym e) in
+        let P : Part → In → Type 0 = λ x y. Kept (out_at (w' a) x q c) y in
+        subst (λ x. P x (in_at (w' q) (at_one σ a k' q) a c)) (sym (one_here σ a k')) (subst (P k') (sym (in_far q a c n)) (sends q c l i (cases_eq q b) (cases_eq c d)))
+
+    to_mover : (p c : ℕ) (l : Link) → HasLink s p a c l → Kept (out_at (w' p) (at_one σ a k' p) a c) (in_at (w' a) (at_one σ a k' a) p c)
+    to_mover p c l i =
+        let n : p ≡ a → ⊥ = (line s p a c l law i).apart in
+        let P : Part → Out → Type 0 = λ x y. Kept y (in_at (w' a) x p c) in
+        subst (λ x. P x (out_at (w' p) (at_one σ a k' p) a c)) (sym (one_here σ a k')) (subst (P k') (sym (out_far p a c n)) (receives p c l (mirror p l) i (mirrored s p a c l law i) (cases_eq p b) (cases_eq c d)))
+
+    moved_by : (p q c : ℕ) (l : Link) → HasLink s p q c l → (p ≡ a) ⊎ (p ≡ a → ⊥) → (q ≡ a) ⊎ (q ≡ a → ⊥) → Kept (out_at (w' p) (at_one σ a k' p) q c) (in_at (w' q) (at_one σ a k' q) p c)
+    moved_by p q c l i (inl e) f =
+        let H : ℕ → Type 0 = λ x. HasLink s x q c l in
+        let P : ℕ → Type 0 = λ x. Kept (out_at (w' x) (at_one σ a k' x) q c) (in_at (w' q) (at_one σ a k' q) x c) in
+        subst P (sym e) (at_mover q c l (subst H e i))
+    moved_by p q c l i (inr n) (inl f) =
+        let H : ℕ → Type 0 = λ x. HasLink s p x c l in
+        let P : ℕ → Type 0 = λ x. Kept (out_at (w' p) (at_one σ a k' p) x c) (in_at (w' x) (at_one σ a k' x) p c) in
+        subst P (sym f) (to_mover p c l (subst H f i))
+    moved_by p q c l i (inr n) (inr m) =
+        let P : Out → In → Type 0 = λ x y. Kept x y in
+        subst (λ x. P x (in_at (w' q) (at_one σ a k' q) p c)) (sym (out_far p q c n)) (subst (P (out_at (w p) (σ p) q c)) (sym (in_far q p c m)) (ways p q c l i))
+
+    pub moved : Ways w' (at_one σ a k')
+    moved p q c l i = moved_by p q c l i (cases_eq p a) (cases_eq q a)
+
+  -- all that is known of all partitions and words
+  pub record Good (w : Words) (σ : ℕ → Part) : Type 0 where
+    pub fixed : (p : ℕ) → p < s.count → Fixed p (σ p)
+    pub told : (p : ℕ) → p < s.count → takes (σ p).state.script.decided ≡ false
+    pub ways : Ways w σ
+
+  pub all_but : (P : ℕ → Part → Type 0) (σ : ℕ → Part) (a : ℕ) (k' : Part) → P a k' → ((p : ℕ) → p < s.count → P p (σ p)) → (p : ℕ) → p < s.count → P p (at_one σ a k' p)
+  all_but P σ a k' new old p l = by (cases_eq p a)
+    where
+      by : (p ≡ a) ⊎ (p ≡ a → ⊥) → P p (at_one σ a k' p)
+      by (inl e) = let Q : ℕ → Type 0 = λ x. P x (at_one σ a k' x) in subst Q (sym e) (subst (P a) (sym (one_here σ a k')) new)
+      by (inr n) = rw (ne_eqb a p (λ e. n (sym e))) (old p l)
+
+  -- partition a moves: its end to b on channel d becomes x, and the end's record changes by f
+  module _ (w w' : Words) (σ : ℕ → Part) (a b d : ℕ) (k' : Part) (x : End) (f : Recorded → Recorded) (good : Good w σ) (low : a < s.count) where
+    abbrev end_before : End
+    end_before = end_of (σ a).state b d
+
+    abbrev records_before : List Recorded
+    records_before = (σ a).logged.records
+
+    abbrev record_before : Recorded
+    record_before = recorded records_before end_before.record_number
+
+    abbrev pub out_new : Out
+    out_new = record { send = x.send; accepted = (f record_before).accepted; put = w' a (Counter b d 1); entry = λ k g. w' a (Entry b d k g) }
+
+    abbrev pub in_new : In
+    in_new = record { pull = x.pull; front = x.front; stored = x.stored; taken = (f record_before).taken; acked = (f record_before).acked; get = w' a (Counter b d 0) }
+
+    -- what is asked of a move
+    pub record Moves : Type 0 where
+      pub ends : k'.state.ends ≡ set_end (σ a).state.ends b d x
+      pub records : k'.logged.records ≡ update_at records_before end_before.record_number f
+      pub warm : x.warm ≡ end_before.warm
+      pub number : x.record_number ≡ end_before.record_number
+      pub names : (r : Recorded) → strip (f r) ≡ strip r
+      pub safe : ((r : Recorded) → f r ≡ r) ⊎ (end_before.warm ≡ true)
+      pub told : takes k'.state.script.decided ≡ false
+      pub away : (p : ℕ) → (p ≡ a → ⊥) → (pl : Place) → w' p pl ≡ w p pl
+      pub counters : (q c g : ℕ) → Other q c b d → w' a (Counter q c g) ≡ w a (Counter q c g)
+      pub entries : (q c k g : ℕ) → Other q c b d → w' a (Entry q c k g) ≡ w a (Entry q c k g)
+      pub here : (l : Link) → HasLink s a b d l → Kept out_new (in_at (w b) (σ b) a d) × Kept (out_at (w b) (σ b) a d) in_new
+
+    module _ (m : Moves) where
+      end_kept : (q c : ℕ) → Other q c b d → end_of k'.state q c ≡ end_of (σ a).state q c
+      end_kept q c o = ap (λ (es : List (List End)). end_at es q c) m.ends ∙ end_other (σ a).state.ends b d x q c o
+
+      records_kept : (q c : ℕ) (l : Link) → HasLink s a q c l → Other q c b d → ((r : Recorded) → f r ≡ r) ⊎ (end_before.warm ≡ true) → recorded (update_at records_before end_before.record_number f) (end_of (σ a).state q c).record_number ≡ recorded records_before (end_of (σ a).state q c).record_number
+      records_kept q c l i o (inl e) = ap (λ (rs : List Recorded). recorded rs (end_of (σ a).state q c).record_number) (update_nothing records_before end_before.record_number f e)
+      records_kept q c l i o (inr e) =
+          let j = warm_link a b d (σ a) (good.fixed a low) e in
+          update_other records_before end_before.record_number (end_of (σ a).state q c).record_number f (number_other a q c b d l j.0 (σ a) (good.fixed a low) i j.1 o)
+
+      frame : Frame a b d (w a) (w' a) (σ a) k'
+      frame = record { outs = outs; ins = ins }
+        where
+          outs : (q c : ℕ) (l : Link) → HasLink s a q c l → Other q c b d → out_at (w' a) k' q c ≡ out_at (w a) (σ a) q c
+          outs q c l i o =
+              let e = end_kept q c o in
+              (λ j. out_by (w' a) (m.records j) (e j) q c)
+              ∙ (λ j. record { send = (end_of (σ a).state q c).send; accepted = (records_kept q c l i o m.safe j).accepted; put = m.counters q c 1 o j; entry = λ k g. m.entries q c k g o j })
+
+          ins : (q c : ℕ) (l : Link) → HasLink s a q c l → Other q c b d → in_at (w' a) k' q c ≡ in_at (w a) (σ a) q c
+          ins q c l i o =
+              let e = end_kept q c o in
+              (λ j. in_by (w' a) (m.records j) (e j) q c)
+              ∙ (λ j. record { pull = (end_of (σ a).state q c).pull; front = (end_of (σ a).state q c).front; stored = (end_of (σ a).state q c).stored; taken = (records_kept q c l i o m.safe j).taken; acked = (records_kept q c l i o m.safe j).acked; get = m.counters q c 0 o j })
+
+      end_new : (l : Link) → HasLink s a b d l → end_of k'.state b d ≡ x
+      end_new l i = ap (λ (es : List (List End)). end_at es b d) m.ends ∙ end_here (σ a).state.ends b d x (link_warm a b d l (σ a) (good.fixed a low) i)
+
+      record_new : (l : Link) → HasLink s a b d l → recorded k'.logged.records (end_of k'.state b d).record_number ≡ f record_before
+      record_new l i =
+          (λ j. recorded (m.records j) ((ap (λ (e : End). e.record_number) (end_new l i) ∙ m.number) j))
+          ∙ update_here records_before end_before.record_number f (number_low a b d l (σ a) (good.fixed a low) i)
+
+      out_is : (l : Link) → HasLink s a b d l → out_at (w' a) k' b d ≡ out_new
+      out_is l i = λ j. record { send = (end_new l i j).send; accepted = (record_new l i j).accepted; put = w' a (Counter b d 1); entry = λ k g. w' a (Entry b d k g) }
+
+      in_is : (l : Link) → HasLink s a b d l → in_at (w' a) k' b d ≡ in_new
+      in_is l i = λ j. record { pull = (end_new l i j).pull; front = (end_new l i j).front; stored = (end_new l i j).stored; taken = (record_new l i j).taken; acked = (record_new l i j).acked; get = w' a (Counter b d 0) }
+
+      fixed_new : Fixed a k'
+      fixed_new = record {
+        warm = λ q c. ap (λ (es : List (List End)). (end_at es q c).warm) m.ends ∙ stays_end (λ (e : End). e.warm) (σ a).state.ends b d x q c m.warm ∙ (good.fixed a low).warm q c;
+        number = λ q c. ap (λ (es : List (List End)). (end_at es q c).record_number) m.ends ∙ stays_end (λ (e : End). e.record_number) (σ a).state.ends b d x q c m.number ∙ (good.fixed a low).number q c;
+        names = ap (map strip) m.records ∙ update_names records_before end_before.record_number f m.names ∙ (good.fixed a low).names;
+      }
+
+      pub good_after : Good w' (at_one σ a k')
+      good_after = record {
+        fixed = all_but (λ p k. Fixed p k) σ a k' fixed_new good.fixed;
+        told = all_but (λ p k. takes k.state.script.decided ≡ false) σ a k' m.told good.told;
+        ways = moved w w' σ a b d k' good.ways m.away frame (λ l i. (subst (λ (o : Out). Kept o (in_at (w b) (σ b) a d)) (sym (out_is l i)) (m.here l i).0, subst (λ (y : In). Kept (out_at (w b) (σ b) a d) y) (sym (in_is l i)) (m.here l i).1));
+      }
+
+  -- a move that changes no end and no record
+  pub good_same : (w : Words) (σ : ℕ → Part) (a : ℕ) (k' : Part) → Good w σ → a < s.count → k'.state.ends ≡ (σ a).state.ends → k'.logged.records ≡ (σ a).logged.records → takes k'.state.script.decided ≡ false → Good w (at_one σ a k')
+  good_same w σ a k' good low e r t =
+      let o : (q c : ℕ) → out_at (w a) k' q c ≡ out_at (w a) (σ a) q c = λ q c. λ j. out_by (w a) (r j) (end_at (e j) q c) q c in
+      let i : (q c : ℕ) → in_at (w a) k' q c ≡ in_at (w a) (σ a) q c = λ q c. λ j. in_by (w a) (r j) (end_at (e j) q c) q c in
+      record {
+        fixed = all_but (λ p k. Fixed p k) σ a k' (record {
+          warm = λ q c. ap (λ (es : List (List End)). (end_at es q c).warm) e ∙ (good.fixed a low).warm q c;
+          number = λ q c. ap (λ (es : List (List End)). (end_at es q c).record_number) e ∙ (good.fixed a low).number q c;
+          names = ap (map strip) r ∙ (good.fixed a low).names;
+        }) good.fixed;
+        told = all_but (λ p k. takes k.state.script.decided ≡ false) σ a k' t good.told;
+        ways = moved w w σ a 0 0 k' good.ways (λ p n pl. refl) (record { outs = λ q c l h x. o q c; ins = λ q c l h x. i q c }) (λ l h. (subst (λ (y : Out). Kept y (in_at (w 0) (σ 0) a 0)) (sym (o 0 0)) (good.ways a 0 0 l h), subst (λ (y : In). Kept (out_at (w 0) (σ 0) a 0) y) (sym (i 0 0)) (good.ways 0 a 0 (mirror a l) (mirrored s a 0 0 l law h))));
+      }
