@@ -1,0 +1,32 @@
+-- What a lawful setup says of each of its links and commands.
+use Rattle.std.proofs.Common.{◌≡◌, ℕ, zero, suc, ◌<◌, List, [], ◌∷◌, length, get_or, slice_get, Some, arith, subst, sym}
+use Rattle.xp_rules.specs.declared.commands.Command.{Command}
+use Rattle.xp_rules.specs.declared.commands.Command.TheVariants.{Send, Take, Release}
+use Rattle.xp_rules.specs.Acts.{partner_named, channel_named}
+use Rattle.xp_node.specs.End.{IsShort}
+use Rattle.xp_rules.specs.declared.setup.Link.{Link}
+use Rattle.xp_rules.specs.declared.setup.Setup.{Setup}
+use Rattle.xp_rules.specs.Setup.{IsPeer, IsSize, IsLawfulLink, AreLawfulLinks, IsLawfulCommand, AreLawfulCommands}
+
+pub link_at : (s : Setup) (ls : List Link) (i : ℕ) (d : Link) → AreLawfulLinks s ls → i < length ls → IsLawfulLink s (get_or ls i d)
+link_at s [] i d a h = absurd (omega arith)
+link_at s (l ∷ ls) zero d a h = a.0
+link_at s (l ∷ ls) (suc i) d a h = link_at s ls i d a.1 (omega arith)
+
+pub size_at : (s : Setup) (ls : List Link) (i : ℕ) (x : Link) → AreLawfulLinks s ls → i < length ls → x ≡ get_or ls i x → IsSize x.entries x.limit
+size_at s ls i x a h e = let P : Link → Type 0 = λ y. IsSize y.entries y.limit in subst P (sym e) (link_at s ls i x a h).1
+
+pub command_at : (s : Setup) (xs : List Command) (i : ℕ) (x : Command) → AreLawfulCommands s xs → slice_get xs i ≡ Some x → IsLawfulCommand s x
+command_at s [] i x a e = absurd (cc)
+command_at s (y ∷ xs) zero x a e = let P : Command → Type 0 = λ z. IsLawfulCommand s z in let f : y ≡ x = cc in subst P f a.0
+command_at s (y ∷ xs) (suc i) x a e = command_at s xs i x a.1 e
+
+pub short : (s : Setup) (x : Command) → IsLawfulCommand s x → IsShort x
+short s (Send q c payload wait) h = h.1
+short s (Take q c) h = tt
+short s (Release q c number) h = tt
+
+pub peer : (s : Setup) (x : Command) → IsLawfulCommand s x → IsPeer s.part s.count (partner_named x) (channel_named x)
+peer s (Send q c payload wait) h = h.0
+peer s (Take q c) h = h
+peer s (Release q c number) h = h

@@ -1,0 +1,13 @@
+pub mod Lawful
+pub mod Plans
+pub mod RecordLemmas
+pub mod Pushes
+pub mod Does
+pub mod Ties
+pub mod Bounds
+pub mod Steps
+pub mod Others
+pub mod Calm
+pub mod Owing
+pub mod Diligence
+pub mod Settings

@@ -1,0 +1,77 @@
+-- The steps that a node wants, and room for its counts.
+use Rattle.std.proofs.Common.{◌≡◌, ℕ, ◌+◌, ◌^◌, ◌<◌, ◌≤◌, Bool, true, false, List, length, refl, ap, sym, subst, arith, Option, Some, None}
+use Rattle.std.specs.Prelude.{IfSome}
+use Rattle.xp_base.specs.declared.step.OpKind.TheVariants.{Load}
+use Rattle.xp_base.specs.declared.step.Answer.{Answer}
+use Rattle.xp_base.specs.declared.step.Step.{Step}
+use Rattle.xp_base.specs.Places.{Place, Open, Record, Flag, Args, Counter, Entry, Pool, Beyond, IsWithin, index_of}
+use Rattle.xp_rules.specs.declared.commands.Command.{Command}
+use Rattle.xp_rules.specs.declared.rule.RingRule.TheVariants.{ReadGet, WriteEntryWord, AcceptMessage}
+use Rattle.xp_rules.specs.declared.rule.Rule.{Rule}
+use Rattle.xp_rules.specs.declared.rule.Rule.TheVariants.{Ring, Pull, Acknowledge}
+use Rattle.xp_rules.specs.declared.setup.Setup.{Setup}
+use Rattle.xp_rules.specs.Setup.{IsLawfulSetup}
+use Rattle.xp_rules.specs.State.{State, start}
+use Rattle.xp_rules.specs.Rules.{Can, place, kind, mark_of, wanted_of, after_answer}
+use Rattle.xp_rules.specs.Acts.{after_acts, MayActs, begun_with, upcoming}
+use Rattle.xp_rules.specs.Runs.{state_after}
+use Rattle.xp_rules.proofs.Undo.{within, owner_low}
+use Rattle.xp_node.specs.declared.kept.Kept.{Kept}
+use Rattle.xp_node.specs.declared.turns.Made.{Made}
+use Rattle.xp_node.specs.declared.turns.Waiting.{Waiting}
+use Rattle.xp_node.specs.Held.{HasRoom, begun_acts}
+use Rattle.xp_node.specs.Node.{IsStep}
+use Rattle.xp_node.specs.Turns.{made_turns, waiting_for, Tie}
+use Rattle.xp_node.proofs.Bounds.{IsBounded, began_bounded, answered_bounded, room_of, kept_bounded}
+
+index_low : (pl : Place) → IsWithin pl → index_of pl < 5912
+index_low (Open o) h = omega arith
+index_low (Record q f) h = omega arith
+index_low (Flag q) h = omega arith
+index_low (Args q c f) h = omega arith
+index_low (Counter q c f) h = omega arith
+index_low (Entry q c k f) h = omega arith
+index_low (Pool b f) h = omega arith
+index_low Beyond h = absurd h
+
+loads : (st : State) (r : Rule) → IfSome (mark_of st r) (λ mark. kind st r ≡ Load)
+loads st (Ring q c ReadGet) = refl
+loads st (Ring q c (WriteEntryWord f)) = tt
+loads st (Ring q c AcceptMessage) = tt
+loads st (Pull q c m) = refl
+loads st (Acknowledge q c) = tt
+
+pub is_step : (s : Setup) (st : State) (r : Rule) → IsLawfulSetup s → Can s st r → IsStep s (wanted_of s st r)
+is_step s st r l h = record { owner = owner_low s st r l h; index = index_low (place s st r) (within s st r l h); load = loads st r }
+
+pub idle_waits : (s : Setup) (st : State) (w : Option Waiting) → waiting_for s st w ≡ None → w ≡ None
+idle_waits s st None h = refl
+idle_waits s st (Some w) h = absurd (cc)
+
+begun_up : (st : State) (o : Option Command) → (begun_with st o).script.begun ≤ st.script.begun + 1
+begun_up st None = omega arith
+begun_up st (Some x) = omega arith
+
+pub few : (s : Setup) (old st : State) (b : Bool) → IsLawfulSetup s → st ≡ after_acts s old (begun_acts b) → MayActs s old (begun_acts b) → b ≡ true → st.script.begun < 2 ^ 32
+few s old st true l e m t = let f : st.script.begun ≡ (begun_with old (upcoming s old)).script.begun = ap (λ (x : State). x.script.begun) e in omega (arith, f, begun_up old (upcoming s old), m.0.1, l.length)
+few s old st false l e m t = absurd (cc)
+
+bounded_by : (st st' : State) (f n k : ℕ) → st ≡ st' → IsBounded st' f n k → IsBounded st f n k
+bounded_by st st' f n k e h = subst (λ (x : State). IsBounded x f n k) (sym e) h
+
+pub room_idle : (s : Setup) (st : State) (kept : Kept) (ms : List Made) (xs : List Step) (done : Bool) → Tie s st kept ms xs None done → length ms + 1 ≤ 2 ^ 63 → HasRoom st
+room_idle s st kept ms xs done t h = room_of st (length ms) (length ms) (length ms) (omega arith) (omega arith) (omega arith) (bounded_by st _ _ _ _ t.state (kept_bounded s ms xs))
+
+pub room_began : (s : Setup) (st st1 : State) (kept : Kept) (ms : List Made) (xs : List Step) (done b : Bool) → Tie s st kept ms xs None done → length ms + 1 ≤ 2 ^ 63 → st1 ≡ after_acts s st (begun_acts b) → HasRoom st1
+room_began s st st1 kept ms xs done b t h e =
+    room_of st1 (length ms + 1) (length ms) (length ms) (omega arith) (omega arith) (omega arith) (bounded_by st1 _ _ _ _ e (began_bounded s st b (length ms) (length ms) (length ms) (bounded_by st _ _ _ _ t.state (kept_bounded s ms xs))))
+
+waits_bounded : (s : Setup) (st : State) (kept : Kept) (ms : List Made) (xs : List Step) (w : Waiting) (done : Bool) → Tie s st kept ms xs (Some w) done → IsBounded st (length ms + 1) (length ms) (length ms)
+waits_bounded s st kept ms xs w done t = bounded_by st _ _ _ _ t.state (began_bounded s (state_after s (start s) (made_turns s ms xs)) w.began (length ms) (length ms) (length ms) (kept_bounded s ms xs))
+
+pub room_waits : (s : Setup) (st : State) (kept : Kept) (ms : List Made) (xs : List Step) (w : Waiting) (done : Bool) → Tie s st kept ms xs (Some w) done → length ms + 1 ≤ 2 ^ 63 → HasRoom st
+room_waits s st kept ms xs w done t h = room_of st (length ms + 1) (length ms) (length ms) (omega arith) (omega arith) (omega arith) (waits_bounded s st kept ms xs w done t)
+
+pub room_fed : (s : Setup) (st st2 : State) (kept : Kept) (ms : List Made) (xs : List Step) (w : Waiting) (done : Bool) (r : Rule) (a : Answer) → Tie s st kept ms xs (Some w) done → length ms + 1 ≤ 2 ^ 63 → st2 ≡ after_answer st r a → HasRoom st2
+room_fed s st st2 kept ms xs w done r a t h e =
+    room_of st2 (length ms + 1) (length ms + 1) (length ms) (omega arith) (omega arith) (omega arith) (bounded_by st2 _ _ _ _ e (answered_bounded st r a (length ms + 1) (length ms) (length ms) (waits_bounded s st kept ms xs w done t)))

@@ -1,0 +1,28 @@
+// What is kept of a turn, and how a partition ends.
+use xp_rules::rule::Rule;
+
+/// What is kept of a turn: whether it began a command, the rule of its step where it made one, and whether it answered a command.
+#[derive(Clone, Copy, Debug, PartialEq, Eq)]
+pub struct Made {
+    pub began: bool,
+    pub rule: Option<Rule>,
+    pub answered: bool,
+}
+
+/// A turn that waits for the answer of its step.
+#[derive(Clone, Copy, Debug, PartialEq, Eq)]
+pub struct Waiting {
+    pub rule: Rule,
+    pub began: bool,
+}
+
+/// How a partition ended.
+#[derive(Clone, Copy, Debug, PartialEq, Eq)]
+pub enum Ended {
+    /// Its script is answered to the end, and nothing is owed.
+    Done,
+    /// A planned stop.
+    Stopped,
+    /// Its stamp can't be raised any more.
+    Halted { word: u64 },
+}
