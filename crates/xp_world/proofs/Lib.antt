@@ -1,0 +1,4 @@
+pub mod Openings
+pub mod Worlds
+pub mod Schedules
+pub mod Each

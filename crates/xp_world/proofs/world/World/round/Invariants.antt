@@ -1,0 +1,11 @@
+use Rattle.std.proofs.Common.{◌≡◌, length}
+use Rattle.xp_rules.specs.Scenario.{one_round}
+use Rattle.xp_world.specs.World.{IsReady, TakeTurns}
+use Rattle.xp_world.proofs.world.World.round.Given as goal
+
+abbrev pub invariant-loop-number : goal.invariant-loop-number
+invariant-loop-number l = record {
+  turns : TakeTurns (one_round 0 l.number) l.initial.self l.self;
+  ready : IsReady l.self;
+  count : length l.self.nodes.items ≡ length l.initial.self.nodes.items;
+}

@@ -1,0 +1,11 @@
+use Rattle.std.proofs.Common.{◌≡◌, length}
+use Rattle.xp_rules.specs.Scenario.{some_rounds}
+use Rattle.xp_world.specs.World.{IsReady, TakeTurns}
+use Rattle.xp_world.proofs.world.World.rounds.Given as goal
+
+abbrev pub invariant-loop-round : goal.invariant-loop-round
+invariant-loop-round l = record {
+  turns : TakeTurns (some_rounds (length l.initial.self.nodes.items) l._round) l.initial.self l.self;
+  ready : IsReady l.self;
+  count : length l.self.nodes.items ≡ length l.initial.self.nodes.items;
+}

@@ -1,0 +1,48 @@
+use Rattle.std.proofs.Common.{◌≡◌, ℕ, length, set, refl, ap}
+use Rattle.std.specs.Vec.{with_item}
+use Rattle.std.proofs.lemmas.Option.{slice_get_read}
+use Rattle.xp_world.specs.declared.world.World.{World}
+use Rattle.xp_world.specs.World.{StaysReached}
+use Rattle.xp_world.proofs.Worlds.{turned_on, same_on, reached_on, ready_on}
+use Rattle.xp_world.proofs.world.World.turn.Goals as goal
+
+pub returns-clause-reached : goal.returns-clause-reached
+returns-clause-reached c =
+    let w = c.args.self.now in
+    let r = c.turn_node.result in
+    let p = c.args.part in
+    let before = c.index_mut.result.now in
+    let after = c.turn_node.new.node in
+    let w' : World = record { words = c.turn_node.new.words; nodes = with_item w.nodes c.get.result after } in
+    let value = rw c.get.ensures.value at c.index_mut.ensures.value in
+    let was = slice_get_read w.nodes.items (length w.nodes.items) p before refl c.requires.part value in
+    let nodes : w'.nodes.items ≡ set w.nodes.items p after = ap (λ (i : ℕ). set w.nodes.items i after) c.get.ensures.value in
+    reached_on r w w' p (turned_on r w w' p before after was nodes c.turn_node.ensures.ok) (same_on r w w' p before after was nodes c.turn_node.ensures.err c.turn_node.ensures.err_words)
+
+pub returns-clause-promised : goal.returns-clause-promised
+returns-clause-promised c s h lawful reach =
+    let w = c.args.self.now in
+    let r = c.turn_node.result in
+    let p = c.args.part in
+    let before = c.index_mut.result.now in
+    let after = c.turn_node.new.node in
+    let w' : World = record { words = c.turn_node.new.words; nodes = with_item w.nodes c.get.result after } in
+    let value = rw c.get.ensures.value at c.index_mut.ensures.value in
+    let was = slice_get_read w.nodes.items (length w.nodes.items) p before refl c.requires.part value in
+    let nodes : w'.nodes.items ≡ set w.nodes.items p after = ap (λ (i : ℕ). set w.nodes.items i after) c.get.ensures.value in
+    let stays : StaysReached w w' = reached_on r w w' p (turned_on r w w' p before after was nodes c.turn_node.ensures.ok) (same_on r w w' p before after was nodes c.turn_node.ensures.err c.turn_node.ensures.err_words) in
+    let found = stays s h reach in
+    (found.0, found.1, c.promises_kept.ensures s lawful found.0 w'.words found.1.words)
+
+pub returns-clause-ready : goal.returns-clause-ready
+returns-clause-ready c =
+    let w = c.args.self.now in
+    let r = c.turn_node.result in
+    let p = c.args.part in
+    let before = c.index_mut.result.now in
+    let after = c.turn_node.new.node in
+    let w' : World = record { words = c.turn_node.new.words; nodes = with_item w.nodes c.get.result after } in
+    let value = rw c.get.ensures.value at c.index_mut.ensures.value in
+    let was = slice_get_read w.nodes.items (length w.nodes.items) p before refl c.requires.part value in
+    let nodes : w'.nodes.items ≡ set w.nodes.items p after = ap (λ (i : ℕ). set w.nodes.items i after) c.get.ensures.value in
+    ready_on r w w' p c.requires.ready c.turn_node.ensures.count (turned_on r w w' p before after was nodes c.turn_node.ensures.ok) (same_on r w w' p before after was nodes c.turn_node.ensures.err c.turn_node.ensures.err_words)

@@ -1,0 +1,89 @@
+-- Worlds that a history reaches, and the turns that lead from one world to another.
+use Rattle.std.specs.Prelude.{◌≡◌, ℕ, List, [], ◌∷◌, length, Some, None, slice_get, slice_set}
+use Rattle.xp_base.specs.History.{Event, turns_of}
+use Rattle.xp_rules.specs.declared.scenario.Scenario.{Scenario}
+use Rattle.xp_rules.specs.Runs.{Runs}
+use Rattle.xp_rules.specs.Scenario.{setup_of, IsLawful}
+use Rattle.xp_rules.specs.Reached.{ReachedWords, Follows, Scheduled}
+use Rattle.xp_rules.specs.Promised.{KeepsPromises}
+use Rattle.xp_rules.specs.Windows.{Windows}
+use Rattle.xp_node.specs.Node.{NodeView}
+use Rattle.xp_world.specs.declared.world.World.{World}
+use Rattle.xp_world.specs.Turning.{TakesTurn, IsSameNode}
+
+-- a node is partition p of the scenario, with the turns of p in the history
+pub record IsNodeOf (s : Scenario) (h : List Event) (p : ℕ) (n : NodeView) : Type 0 where
+  pub setup : n.setup ≡ setup_of s p
+  pub turns : n.turns ≡ turns_of p h
+  pub runs : Runs (setup_of s p) (turns_of p h)
+
+-- the history leads to the words of the world, and its nodes are the partitions with their turns
+pub record Reached (s : Scenario) (h : List Event) (w : World) : Type 0 where
+  pub words : ReachedWords s h w.words
+  pub count : length w.nodes.items ≡ s.count
+  pub nodes : (p : ℕ) (n : NodeView) → slice_get w.nodes.items p ≡ Some n → IsNodeOf s h p n
+
+-- the history that reaches the world has turns of these partitions, in this order, those of ended ones left out
+abbrev pub Reaches : Scenario → List ℕ → World → Type 0
+Reaches s ps w = (h : List Event) × Reached s h w × Follows s [] ps h
+
+-- each node has done what it owes within each window of its turns
+abbrev pub KeepWindows : List NodeView → Type 0
+KeepWindows ns = (p : ℕ) (n : NodeView) → slice_get ns p ≡ Some n → Windows n.setup n.turns
+
+-- a history with the written turns of the scenario reaches the world, and all that is promised of a history holds of it
+pub record Replayed (s : Scenario) (w : World) : Type 0 where
+  pub history : List Event
+  pub reached : Reached s history w
+  pub scheduled : Scheduled s history
+  pub promises : KeepsPromises s history
+  pub windows : KeepWindows w.nodes.items
+
+-- node k is of partition k among as many as there are nodes, and no step waits
+pub record IsReadyNode (among k : ℕ) (n : NodeView) : Type 0 where
+  pub part : n.setup.part ≡ k
+  pub count : n.setup.count ≡ among
+  pub idle : n.waiting ≡ None
+
+pub record IsReady (w : World) : Type 0 where
+  pub words : length w.words ≡ length w.nodes.items
+  pub nodes : (k : ℕ) (n : NodeView) → slice_get w.nodes.items k ≡ Some n → IsReadyNode (length w.nodes.items) k n
+
+-- node p is partition p of the scenario, without turns
+pub record IsNewNode (s : Scenario) (p : ℕ) (n : NodeView) : Type 0 where
+  pub setup : n.setup ≡ setup_of s p
+  pub turns : n.turns ≡ []
+  pub waiting : n.waiting ≡ None
+
+abbrev pub AreNew : Scenario → List NodeView → Type 0
+AreNew s ns = (p : ℕ) (n : NodeView) → slice_get ns p ≡ Some n → IsNewNode s p n
+
+-- one turn of partition p: its node takes it, and the others stay
+pub record WorldTurns (old new : World) (p : ℕ) : Type 0 where
+  pub before : NodeView
+  pub after : NodeView
+  pub was : slice_get old.nodes.items p ≡ Some before
+  pub nodes : new.nodes.items ≡ slice_set old.nodes.items p after
+  pub turn : TakesTurn old.words before new.words after
+
+-- the same but for the room of node p
+pub record IsSameWorld (old new : World) (p : ℕ) : Type 0 where
+  pub before : NodeView
+  pub after : NodeView
+  pub was : slice_get old.nodes.items p ≡ Some before
+  pub nodes : new.nodes.items ≡ slice_set old.nodes.items p after
+  pub same : IsSameNode before after
+  pub words : new.words ≡ old.words
+
+-- where some history reaches the one, some history reaches the other
+abbrev pub StaysReached : World → World → Type 0
+StaysReached old new = (s : Scenario) (h : List Event) → Reached s h old → (g : List Event) × Reached s g new
+
+-- where some history of a lawful scenario reaches the one, some history reaches the other, and all that is promised of a history holds of it
+abbrev pub StaysPromised : World → World → Type 0
+StaysPromised old new = (s : Scenario) (h : List Event) → IsLawful s → Reached s h old → (g : List Event) × Reached s g new × KeepsPromises s g
+
+-- these partitions take a turn, one after the other
+abbrev pub TakeTurns : List ℕ → World → World → Type 0
+TakeTurns [] old new = new ≡ old
+TakeTurns (p ∷ ps) old new = (next : World) × WorldTurns old next p × TakeTurns ps next new
