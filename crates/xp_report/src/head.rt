@@ -1,0 +1,32 @@
+// The line of a partition.
+ghost use Rattle.std.specs.Prelude.{◌≡◌, ◌++◌, OnOk, string_bytes};
+ghost use Rattle.xp_report.specs.Report.{state_text, head_text};
+
+use std::alloc::AllocError;
+use xp_node::turns::Ended;
+
+/// How a partition stands, as one word.
+fn state_name(ended: Option<Ended>) -> &'static str
+    ensures { result.now ≡ state_text ended }
+{
+    match ended {
+        None => "running",
+        Some(Ended::Done) => "done",
+        Some(Ended::Stopped) => "stopped",
+        Some(Ended::Halted { word: _ }) => "halted",
+    }
+}
+
+/// Writes how a partition stands, and how often it has booted.
+#[tactic(auto, unfolding(crate::specs::Report::head_text))]
+pub fn write_head(
+    out: &mut String,
+    part: u8,
+    ended: Option<Ended>,
+    boots: u8,
+) -> Result<(), AllocError>
+    ensures { OnOk result (string_bytes out.new ≡ string_bytes out.old ++ head_text part ended boots) }
+{
+    let state = state_name(ended);
+    writeln!(out, "partition {part} {state} boots {boots}")
+}
