@@ -1,0 +1,3 @@
+pub mod Status
+pub mod Plain
+pub mod Made
