@@ -1,0 +1,96 @@
+#!/usr/bin/env bash
+# bench/replay.sh [PROGRAM]: how fast PROGRAM replays, and how much memory it takes; without a word the built program
+# crates/xpsim/out/xpsim. It makes its scenarios itself:
+#   idle  16,000,000 written turns: a take that no message comes for, beside a partition that has ended
+#   busy  22,000 messages sent, taken and released through a queue of 8 entries, in 16,000,000 written turns
+# Where rustc is there, bench/baseline.rs replays them too: a plain program that proves nothing and keeps no history.
+# Times are processor seconds, of the program and of the system for it. Other load makes them longer.
+set -u
+
+here="$(dirname "$(readlink -f "${BASH_SOURCE[0]}")")"
+program="${1:-$(dirname "$here")/crates/xpsim/out/xpsim}"
+if [ ! -x "$program" ]; then
+    echo "bench/replay.sh: $program isn't built" >&2
+    exit 1
+fi
+program="$(readlink -f "$program")"
+folder="$(mktemp -d)" || exit 1
+trap 'rm -rf "$folder"' EXIT
+
+turns=16000000
+
+make_idle() {
+    printf '%s\n' 'xpsim 1' 'partitions 2' 'warm 0 1 0 entries 4 limit 112' 'script 1' 'take 0 0' 'schedule' 'rounds 8000000'
+}
+
+make_busy() {
+    awk 'BEGIN {
+        messages = 22000
+        print "xpsim 1\npartitions 2\nwarm 0 1 0 entries 8 limit 112\nscript 0"
+        for (k = 0; k < messages; k++) print "send 1 0 6869"
+        print "script 1"
+        for (k = 0; k < messages; k++) print "take 0 0\nrelease 0 0 " k
+        print "schedule\nrounds 8000000"
+    }'
+}
+
+# measure PROGRAM SCENARIO REPORT: its processor seconds, and the most memory that it held, in KiB; "?" where that can't be
+# told. Without GNU time python3 measures, which never tells less than its own 10 to 20 MiB.
+measure() {
+    if /usr/bin/time -f '%U %S %M' true >/dev/null 2>&1; then
+        /usr/bin/time -f '%U %S %M' -o "$folder/measured" "$1" replay <"$2" >"$3" || return 1
+        tail -n 1 "$folder/measured" | awk '{ print $1 + $2, $3 }'
+    elif command -v python3 >/dev/null 2>&1; then
+        python3 -c '
+import resource, subprocess, sys
+program, scenario, report = sys.argv[1:]
+with open(scenario) as given, open(report, "w") as written:
+    subprocess.run([program, "replay"], stdin=given, stdout=written, check=True)
+used = resource.getrusage(resource.RUSAGE_CHILDREN)
+print(round(used.ru_utime + used.ru_stime, 2), used.ru_maxrss)' "$1" "$2" "$3"
+    else
+        local TIMEFORMAT='%U %S'
+        { time "$1" replay <"$2" >"$3"; } 2>"$folder/measured" || return 1
+        tail -n 1 "$folder/measured" | awk '{ print $1 + $2, "?" }'
+    fi
+}
+
+line() { # who seconds KiB
+    local memory="?"
+    [ "$3" = "?" ] || memory="$(awk -v k="$3" 'BEGIN { printf "%.0f", k / 1024 }')"
+    awk -v who="$1" -v s="$2" -v m="$memory" -v t="$turns" 'BEGIN {
+        rate = s > 0 ? sprintf("%.1f", t / s / 1000000) : "?"
+        printf "  %-9s %6.2f s  %6s million turns a second  %5s MiB at most\n", who, s, rate, m
+    }'
+}
+
+baseline=""
+if command -v rustc >/dev/null 2>&1; then
+    if rustc -O --edition 2021 -o "$folder/baseline" "$here/baseline.rs" 2>"$folder/rustc"; then
+        baseline="$folder/baseline"
+    else
+        echo "bench/replay.sh: rustc didn't build bench/baseline.rs" >&2
+        tail -n 5 "$folder/rustc" >&2
+    fi
+fi
+
+failed=0
+for name in idle busy; do
+    "make_$name" >"$folder/$name.xp"
+    echo "$name: $turns written turns"
+    if ! read -r seconds memory < <(measure "$program" "$folder/$name.xp" "$folder/$name.report"); then
+        echo "  the program failed"
+        failed=1
+        continue
+    fi
+    line xpsim "$seconds" "$memory"
+    [ -n "$baseline" ] || continue
+    read -r plain_seconds plain_memory < <(measure "$baseline" "$folder/$name.xp" "$folder/$name.plain") || continue
+    line baseline "$plain_seconds" "$plain_memory"
+    awk -v a="$seconds" -v b="$plain_seconds" 'BEGIN { if (b > 0) printf "  ratio %.1f\n", a / b }'
+    if ! cmp -s "$folder/$name.report" "$folder/$name.plain"; then
+        echo "  the two reports differ"
+        failed=1
+    fi
+done
+exit $failed
