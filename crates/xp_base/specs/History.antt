@@ -8,10 +8,12 @@ use Rattle.xp_base.specs.declared.step.Step.{Step}
 use Rattle.xp_base.specs.declared.step.CopyMark.{CopyMark}
 use Rattle.xp_base.specs.Memory.{Memory, word_at, put_at, answer_of, memory_after}
 
--- what a partition does beside its step: the next command of its script is begun, or the one in progress is answered
+-- what a partition does beside its step: the next command of its script is begun, the one in progress is answered,
+-- or the end for a partner and a channel gives the notice that is due
 pub data Act : Type 0 where
   Begun : Act
   Answered : Act
+  Noticed : (partner : ℕ) → (channel : ℕ) → Act
 
 -- a step, and the copy that it belongs to
 pub record Marked : Type 0 where
