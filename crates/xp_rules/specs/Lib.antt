@@ -2,7 +2,9 @@ pub mod Setup
 pub mod Records
 pub mod Sending
 pub mod Pulling
+pub mod Releasing
 pub mod State
+pub mod Flags
 pub mod Rules
 pub mod Decode
 pub mod Acts

@@ -1,5 +1,6 @@
 -- What the rules promise of every history: messages are taken as they were accepted, no word is touched without leave,
--- an entry is written anew only after it was acknowledged, each send is answered for its first cause, and nothing that is read is broken.
+-- an entry is written anew only after it was acknowledged, each send is answered for its first cause, what is told as delivered was acknowledged,
+-- and nothing that is read is broken.
 use Rattle.std.specs.Prelude.{◌≡◌, ℕ, ◌+◌, ◌-◌, ◌%◌, ◌<◌, ◌≤◌, Bool, true, false, ◌&&◌, if◌then◌else◌, nat_lt, nat_eq, List, [], ◌∷◌, ◌++◌, length, slice_get, Option, Some, None}
 use Rattle.std.specs.List.{Contains}
 use Rattle.std.specs.Int.{bit_at}
@@ -10,6 +11,8 @@ use Rattle.xp_base.specs.declared.step.Answer.TheVariants.{Word}
 use Rattle.xp_base.specs.declared.answer.SendAnswer.{SendAnswer}
 use Rattle.xp_base.specs.declared.answer.SendAnswer.TheVariants.{Ok as SendOk, TooBig, Disconnecting, NotConnected, NoSlot}
 use Rattle.xp_base.specs.declared.answer.TakeAnswer.TheVariants.{Disconnecting as TakeDisconnecting}
+use Rattle.xp_base.specs.declared.answer.DrainAnswer.TheVariants.{Disconnecting as DrainDisconnecting}
+use Rattle.xp_base.specs.declared.answer.ReleaseAnswer.{ReleaseAnswer}
 use Rattle.xp_base.specs.declared.link.LinkState.{LinkState}
 use Rattle.xp_base.specs.declared.link.LinkState.TheVariants.{Idle, Opening, Connected, Closing}
 use Rattle.xp_base.specs.declared.layout.Region.{Region}
@@ -18,12 +21,12 @@ use Rattle.xp_base.specs.declared.reason.Reason.{Reason}
 use Rattle.xp_base.specs.declared.reason.Reason.TheVariants.{BadVersion, BadMagic, BadArgs, BadCounters, BadLength, BadNumber, BadFlags}
 use Rattle.xp_base.specs.declared.session.Session.{Session}
 use Rattle.xp_base.specs.Memory.{Memory, word_at}
-use Rattle.xp_base.specs.History.{Act, Begun, Answered, Marked, Turn, Event, Turned, happens, turns_of}
+use Rattle.xp_base.specs.History.{Act, Begun, Answered, Noticed, Marked, Turn, Event, Turned, happens, turns_of}
 use Rattle.xp_base.specs.Places.{Entry as EntryWord, place_of, region_of}
 use Rattle.xp_rules.specs.declared.commands.Command.{Command}
 use Rattle.xp_rules.specs.declared.commands.Command.TheVariants.{Send, Release}
 use Rattle.xp_rules.specs.declared.log.LogAnswer.{LogAnswer}
-use Rattle.xp_rules.specs.declared.log.LogAnswer.TheVariants.{Send as SendAnswered, Take as TakeAnswered}
+use Rattle.xp_rules.specs.declared.log.LogAnswer.TheVariants.{Send as SendAnswered, Take as TakeAnswered, Drain as DrainAnswered}
 use Rattle.xp_rules.specs.declared.log.Entry.{Entry}
 use Rattle.xp_rules.specs.declared.log.Verb.TheVariants.{Send as SendVerb}
 use Rattle.xp_rules.specs.declared.rule.RingRule.TheVariants.{ReadGet, WriteEntryWord, AcceptMessage}
@@ -34,7 +37,8 @@ use Rattle.xp_rules.specs.declared.scenario.Scenario.{Scenario}
 use Rattle.xp_rules.specs.Records.{Recorded}
 use Rattle.xp_rules.specs.State.{State, End, end_of, engage_of, link_of, start}
 use Rattle.xp_rules.specs.Decode.{rule_of}
-use Rattle.xp_rules.specs.Acts.{upcoming, current, refusal_of, due, after_act, after_acts}
+use Rattle.xp_rules.specs.Acts.{upcoming, current, due, after_act, after_acts}
+use Rattle.xp_rules.specs.Releasing.{release_refusal}
 use Rattle.xp_rules.specs.Runs.{after_step, after_turn}
 use Rattle.xp_rules.specs.Logged.{Logged, logged_after}
 use Rattle.xp_rules.specs.Scenario.{setup_of, opening}
@@ -103,17 +107,18 @@ abbrev pub until : List Event → ℕ → Turn → List Event
 until before p t = before ++ Turned p (record { before = t.before; made = None; after = [] }) ∷ []
 
 -- the numbers of the messages of q on channel c that were released: of each such release that was begun and not refused
-abbrev pub with_released : Option LogAnswer → ℕ → List ℕ → List ℕ
+abbrev pub with_released : Option ReleaseAnswer → ℕ → List ℕ → List ℕ
 with_released None number ns = ns ++ number ∷ []
 with_released (Some refusal) number ns = ns
 
 abbrev pub begun_released : State → ℕ → ℕ → Option Command → List ℕ → List ℕ
-begun_released st q c (Some (Release q' c' number)) ns = if nat_eq q' q && nat_eq c' c then with_released (refusal_of (end_of st q' c') (Release q' c' number)) number ns else ns
+begun_released st q c (Some (Release q' c' number)) ns = if nat_eq q' q && nat_eq c' c then with_released (release_refusal (link_of (end_of st q c)) number (end_of st q c).ack) number ns else ns
 begun_released st q c x ns = ns
 
 abbrev pub released_act : Setup → State → ℕ → ℕ → Act → List ℕ → List ℕ
 released_act s st q c Begun ns = begun_released st q c (upcoming s st) ns
 released_act s st q c Answered ns = ns
+released_act s st q c (Noticed q' c') ns = ns
 
 abbrev pub released_acts : Setup → State → ℕ → ℕ → List Act → List ℕ → List ℕ
 released_acts s st q c [] ns = ns
@@ -163,6 +168,7 @@ is_broken reason = false
 abbrev pub reason_in : Option LogAnswer → Option Reason
 reason_in (Some (SendAnswered (Disconnecting reason))) = Some reason
 reason_in (Some (TakeAnswered (TakeDisconnecting reason))) = Some reason
+reason_in (Some (DrainAnswered (DrainDisconnecting reason))) = Some reason
 reason_in answer = None
 
 -- Clean: no log entry, no record and no partition has such a reason
@@ -191,16 +197,17 @@ pub record Sent : Type 0 where
 
 -- the sends of a partition's turns, the last one first
 abbrev pub begun_send : State → Option Command → List Sent → List Sent
-begun_send st (Some (Send q c payload wait)) xs = record { number = st.script.begun + 1; partner = q; channel = c; payload = payload; wait = wait; beginning = end_of st q c; steps = []; answer = None } ∷ xs
+begun_send st (Some (Send q c payload wait notify)) xs = record { number = st.script.begun + 1; partner = q; channel = c; payload = payload; wait = wait; beginning = end_of st q c; steps = []; answer = None } ∷ xs
 begun_send st x xs = xs
 
 abbrev pub answered_send : Option Command → Option LogAnswer → List Sent → List Sent
-answered_send (Some (Send q c payload wait)) answer (x ∷ xs) = record x { answer = answer } ∷ xs
+answered_send (Some (Send q c payload wait notify)) answer (x ∷ xs) = record x { answer = answer } ∷ xs
 answered_send x answer xs = xs
 
 abbrev pub sends_act : Setup → State → Act → List Sent → List Sent
 sends_act s st Begun xs = begun_send st (upcoming s st) xs
 sends_act s st Answered xs = answered_send (current s st) (due s st) xs
+sends_act s st (Noticed q c) xs = xs
 
 abbrev pub sends_acts : Setup → State → List Act → List Sent → List Sent
 sends_acts s st [] xs = xs
@@ -287,10 +294,24 @@ pub record SendAnswers (s : Scenario) (h : List Event) : Type 0 where
   pub logged : (p place : ℕ) → p < s.count → (x : Entry) → slice_get (logged_of s h p).entries place ≡ Some x → x.verb ≡ SendVerb → IsEntryOf (sends_of s h p) x
   pub caused : (p place : ℕ) → p < s.count → (x : Sent) → slice_get (sends_of s h p) place ≡ Some x → (answer : LogAnswer) → x.answer ≡ Some answer → (cause : SendAnswer) × (first_cause x ≡ Some cause) × (answer ≡ SendAnswered cause)
 
+-- the numbers that are told are the first that were asked for, in their order, and those rise
+abbrev pub AreFirstOf : List ℕ → List ℕ → Type 0
+AreFirstOf front whole = (rest : List ℕ) × (whole ≡ front ++ rest)
+
+abbrev pub AreRising : List ℕ → Type 0
+AreRising numbers = (i j a b : ℕ) → i < j → slice_get numbers i ≡ Some a → slice_get numbers j ≡ Some b → a < b
+
+-- Notices: the delivery of a number is told once at most, for numbers that were asked for alone, and only once the partner has acknowledged the message
+pub record Notices (s : Scenario) (h : List Event) : Type 0 where
+  pub rising : (p number : ℕ) → p < s.count → (r : Recorded) → slice_get (records_of s h p) number ≡ Some r → AreRising r.asked
+  pub told : (p number : ℕ) → p < s.count → (r : Recorded) → slice_get (records_of s h p) number ≡ Some r → AreFirstOf r.delivered r.asked
+  pub delivered : (p number k : ℕ) → p < s.count → (r : Recorded) → slice_get (records_of s h p) number ≡ Some r → Contains r.delivered k → k < acked_of (other s h p r)
+
 -- all that is promised of a history
 pub record KeepsPromises (s : Scenario) (h : List Event) : Type 0 where
   pub prefix : Prefix s h
   pub guarded : Guarded s h
   pub reuse : Reuse s h
   pub send_answers : SendAnswers s h
+  pub notices : Notices s h
   pub clean : Clean s h

@@ -10,7 +10,7 @@ use Rattle.xp_rules.specs.declared.setup.Setup.{Setup}
 use Rattle.xp_rules.specs.declared.scenario.Warm.{Warm}
 use Rattle.xp_rules.specs.declared.scenario.Fault.{Fault}
 use Rattle.xp_rules.specs.declared.scenario.Scenario.{Scenario}
-use Rattle.xp_rules.specs.Setup.{IsSize, AreLawfulCommands, ReleaseInOrder}
+use Rattle.xp_rules.specs.Setup.{IsSize, AreLawfulCommands}
 
 -- the two ends of a line are these partitions, in either order, and it is of this channel
 abbrev pub joins : ℕ → ℕ → ℕ → Warm → Bool
@@ -67,7 +67,6 @@ pub record IsLawful (s : Scenario) : Type 0 where
   pub warms : AreLawfulWarms s.count s.warms
   pub scripts : length s.scripts ≡ s.count
   pub commands : (p : ℕ) → p < s.count → AreLawfulCommands (setup_of s p) (slice_index_or s.scripts p [])
-  pub order : (p : ℕ) → p < s.count → ReleaseInOrder 0 0 (slice_index_or s.scripts p [])
   pub few : command_count s.scripts ≤ 100000
   pub rounds : s.count * round_count s.schedule ≤ 16000000
 

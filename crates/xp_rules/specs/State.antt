@@ -1,5 +1,5 @@
 -- What a partition knows: its script, one end for each partner and channel, how it stands to each partner, and how many copies it has begun.
-use Rattle.std.specs.Prelude.{ℕ, Bool, true, false, if◌then◌else◌, ◌+◌, List, [], ◌∷◌, slice_index_or, slice_set, replicate, Option, None}
+use Rattle.std.specs.Prelude.{ℕ, Bool, true, false, ◌||◌, if◌then◌else◌, ◌+◌, List, [], ◌∷◌, slice_index_or, slice_set, replicate, Option, None}
 use Rattle.xp_base.specs.declared.link.LinkState.{LinkState}
 use Rattle.xp_base.specs.declared.link.LinkState.TheVariants.{Idle, Connected}
 use Rattle.xp_rules.specs.declared.setup.Link.{Link}
@@ -9,6 +9,7 @@ use Rattle.xp_rules.specs.declared.engage.Engagement.{Engagement}
 use Rattle.xp_rules.specs.declared.copies.Copies.{Copies}
 use Rattle.xp_rules.specs.Sending.{Sending, new_sending}
 use Rattle.xp_rules.specs.Pulling.{Pulling, new_pulling}
+use Rattle.xp_rules.specs.Releasing.{Releasing, new_releasing}
 
 -- the script: how many commands were begun, whether the last of them is in progress, and its answer where that is decided
 pub record Scripted : Type 0 where
@@ -22,9 +23,11 @@ pub record End : Type 0 where
   pub record_number : ℕ  -- which record it has
   pub send : Sending
   pub pull : Pulling
-  pub front : ℕ  -- all numbers below were released
+  pub ack : Releasing
+  pub asked : List ℕ  -- the numbers whose delivery is to be told and wasn't, the lowest first
   pub stored : ℕ  -- the last get that this end stored
   pub releasing : Bool  -- whether a release waits for the store of get
+  pub owes_message : Bool  -- whether a message request is owed: a put or a get was stored since the last one
   pub counters_copy : ℕ  -- the number of the copy of the counters that goes on
   pub entries_copy : ℕ  -- the number of the copy of an entry that goes on
 
@@ -36,11 +39,11 @@ pub record State : Type 0 where
 
 -- an end that isn't connected
 abbrev pub idle_end : End
-idle_end = record { warm = false; record_number = 0; send = new_sending 0 0 0 1 0; pull = new_pulling 1 0; front = 0; stored = 0; releasing = false; counters_copy = 0; entries_copy = 0 }
+idle_end = record { warm = false; record_number = 0; send = new_sending 0 0 0 1 0; pull = new_pulling 0 0 0 1 0; ack = new_releasing; asked = []; stored = 0; releasing = false; owes_message = false; counters_copy = 0; entries_copy = 0 }
 
 -- an end that is connected from the opening
 abbrev pub warm_end : ℕ → ℕ → Link → End
-warm_end part number l = record { warm = true; record_number = number; send = new_sending part l.partner l.channel l.entries l.limit; pull = new_pulling l.entries l.limit; front = 0; stored = 0; releasing = false; counters_copy = 0; entries_copy = 0 }
+warm_end part number l = record { warm = true; record_number = number; send = new_sending part l.partner l.channel l.entries l.limit; pull = new_pulling part l.partner l.channel l.entries l.limit; ack = new_releasing; asked = []; stored = 0; releasing = false; owes_message = false; counters_copy = 0; entries_copy = 0 }
 
 abbrev pub end_at : List (List End) → ℕ → ℕ → End
 end_at ends q c = slice_index_or (slice_index_or ends q []) c idle_end
@@ -50,6 +53,17 @@ set_end ends q c x = slice_set ends q (slice_set (slice_index_or ends q []) c x)
 
 abbrev pub end_of : State → ℕ → ℕ → End
 end_of st q c = end_at st.ends q c
+
+-- the ends for a partner; there is contact where one of them is connected
+abbrev pub row_of : State → ℕ → List End
+row_of st q = slice_index_or st.ends q []
+
+abbrev pub any_warm : List End → Bool
+any_warm [] = false
+any_warm (e ∷ es) = e.warm || any_warm es
+
+abbrev pub in_contact : State → ℕ → Bool
+in_contact st q = any_warm (row_of st q)
 
 abbrev pub no_engagement : Engagement
 no_engagement = record { reason = None }

@@ -28,4 +28,8 @@ pub enum Rule {
     Pull(u8, u8, PullRule),
     /// Stores get: what was released.
     Acknowledge(u8, u8),
+    /// Takes the own flag word of a partner: what it has asked for.
+    TakeFlags(u8),
+    /// Sets the partner's message request: a message was put or acknowledged.
+    SetFlag(u8, u8),
 }
