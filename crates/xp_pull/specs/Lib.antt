@@ -1,0 +1,4 @@
+pub mod Side
+pub mod Cached
+pub mod Keeping
+pub mod SideInside

@@ -1,0 +1,11 @@
+//! The receiving side of a channel.
+#![tactic(auto)]
+
+mod cache;
+mod copied;
+pub mod side;
+#[cfg(test)]
+mod tests;
+
+pub use xp_base::answer::TakeAnswer;
+pub use xp_base::link::LinkState;
