@@ -1,0 +1,17 @@
+pub mod Ends
+pub mod Positions
+pub mod Calm
+pub mod CalmActs
+pub mod Fits
+pub mod Opening
+pub mod Turning
+pub mod Walk
+pub mod Service
+pub mod Contacts
+pub mod Counters
+pub mod Copies
+pub mod Script
+pub mod Commands
+pub mod Takes
+pub mod Answering
+pub mod Windows
