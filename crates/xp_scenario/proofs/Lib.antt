@@ -2,4 +2,5 @@ pub mod Fronts
 pub mod LineLemmas
 pub mod Numbers
 pub mod Rounds
-pub mod Lawful
+pub mod Spelled
+pub mod Ordered

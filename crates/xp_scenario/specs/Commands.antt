@@ -1,7 +1,7 @@
 -- The lines of a script: which commands they spell, and in which order commands may stand.
-use Rattle.std.specs.Prelude.{ℕ, ◌+◌, Bool, true, ◌&&◌, nat_eq, nat_lt, List, [], ◌∷◌, codes, Option, Some, None}
+use Rattle.std.specs.Prelude.{◌≡◌, ℕ, ◌+◌, ◌<◌, Bool, true, false, ◌&&◌, nat_eq, nat_lt, List, [], ◌∷◌, codes, Option, Some, None}
 use Rattle.xp_rules.specs.declared.commands.Command.{Command}
-use Rattle.xp_rules.specs.declared.commands.Command.TheVariants.{Send, Take, Release}
+use Rattle.xp_rules.specs.declared.commands.Command.TheVariants.{Send, Take, Release, Drain}
 use Rattle.xp_scenario.specs.Words.{◌>>=◌, when◌then◌else◌, behind, at_end, number_of, payload_of}
 use Rattle.xp_scenario.specs.Lines.{behind_line}
 
@@ -9,19 +9,19 @@ use Rattle.xp_scenario.specs.Lines.{behind_line}
 abbrev pub peer : ℕ → List ℕ
 peer q = (48 + q) ∷ 32 ∷ 48 ∷ []
 
--- `1 0 PAYLOAD`, behind `send `
+-- `1 0 PAYLOAD`, behind `send `: it waits for room, and asks for no notice
 unfoldable pub send_of : ℕ → List ℕ → Option Command
 send_of q words = do
   more ← behind (peer q) words
   word ← behind (codes " ") more
   payload ← payload_of word
-  Some (Send q 0 payload true)
+  Some (Send q 0 payload true false)
 
--- `1 0`, behind `take `
+-- `1 0`, behind `take `: it waits for a message
 unfoldable pub take_of : ℕ → List ℕ → Option Command
 take_of q words = do
   more ← behind (peer q) words
-  at_end (Take q 0) more
+  at_end (Take q 0 true) more
 
 -- `1 0 NUMBER`, behind `release `
 unfoldable pub release_of : ℕ → List ℕ → Option Command
@@ -58,6 +58,14 @@ script_in title q lines =
 -- messages are released in order: the k-th release names k - 1 and stands behind the k-th take
 abbrev pub is_in_order : ℕ → ℕ → List Command → Bool
 is_in_order takes releases [] = true
-is_in_order takes releases (Send q c payload wait ∷ more) = is_in_order takes releases more
-is_in_order takes releases (Take q c ∷ more) = is_in_order (takes + 1) releases more
+is_in_order takes releases (Send q c payload wait notify ∷ more) = is_in_order takes releases more
+is_in_order takes releases (Take q c wait ∷ more) = is_in_order (takes + 1) releases more
 is_in_order takes releases (Release q c number ∷ more) = nat_eq number releases && (nat_lt releases takes && is_in_order takes (releases + 1) more)
+is_in_order takes releases (Drain q c ∷ more) = is_in_order takes releases more
+
+abbrev pub ReleaseInOrder : ℕ → ℕ → List Command → Type 0
+ReleaseInOrder takes releases [] = Unit {0}
+ReleaseInOrder takes releases (Send q c payload wait notify ∷ more) = ReleaseInOrder takes releases more
+ReleaseInOrder takes releases (Take q c wait ∷ more) = ReleaseInOrder (takes + 1) releases more
+ReleaseInOrder takes releases (Release q c number ∷ more) = (number ≡ releases) × (releases < takes) × ReleaseInOrder takes (releases + 1) more
+ReleaseInOrder takes releases (Drain q c ∷ more) = ReleaseInOrder takes releases more

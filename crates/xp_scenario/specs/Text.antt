@@ -1,13 +1,13 @@
 -- The texts that spell a scenario of two partitions with one channel that opens connected: three lines that open it, at
 -- most one script of each partition, and a schedule, within the limits of commands, releases and rounds.
-use Rattle.std.specs.Prelude.{ℕ, ◌+◌, ◌-◌, Bool, ◌&&◌, if◌then◌else◌, nat_le, List, [], ◌∷◌, length, codes, Option, Some, None}
+use Rattle.std.specs.Prelude.{ℕ, ◌+◌, ◌-◌, ◌<◌, Bool, ◌&&◌, if◌then◌else◌, nat_le, List, [], ◌∷◌, length, slice_index_or, codes, Option, Some, None}
 use Rattle.xp_rules.specs.declared.commands.Command.{Command}
 use Rattle.xp_rules.specs.declared.scenario.Warm.{Warm}
 use Rattle.xp_rules.specs.declared.scenario.Scenario.{Scenario}
 use Rattle.xp_rules.specs.Scenario.{round_count}
 use Rattle.xp_scenario.specs.Words.{◌>>=◌, behind, number_of}
 use Rattle.xp_scenario.specs.Lines.{lines_of, is_ended, behind_line}
-use Rattle.xp_scenario.specs.Commands.{script_in, is_in_order}
+use Rattle.xp_scenario.specs.Commands.{script_in, is_in_order, ReleaseInOrder}
 
 -- the channel, with its size
 abbrev pub warm_with : ℕ → ℕ → Warm
@@ -82,3 +82,7 @@ scripts_of warm lines =
 -- the scenario that a text spells
 unfoldable pub scenario_of : List ℕ → Option Scenario
 scenario_of text = if is_ended text then (opening_in (lines_of text) >>= λ opening. scripts_of opening.0 opening.1) else None
+
+-- each script of a scenario releases its messages in order
+abbrev pub AreInOrder : Scenario → Type 0
+AreInOrder s = (p : ℕ) → p < s.count → ReleaseInOrder 0 0 (slice_index_or s.scripts p [])

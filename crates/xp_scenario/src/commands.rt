@@ -8,6 +8,9 @@ use std::alloc::{AllocError, Global};
 use xp_base::ids::{Channel, PartId};
 use xp_rules::commands::Command;
 
+/// Every send and take of a text waits.
+const WAITS: bool = true;
+
 /// The command of a line, in a script whose partner is this.
 #[tactic(auto, unfolding(crate::specs::Commands::command_of))]
 pub fn command(alloc: Global, partner: PartId, line: &[u8]) -> Result<Option<Command>, AllocError>
@@ -42,7 +45,8 @@ fn send(alloc: Global, partner: PartId, words: &[u8]) -> Result<Option<Command>,
         partner,
         channel: Channel::known(0),
         payload,
-        wait: true,
+        wait: WAITS,
+        notify: false,
     }))
 }
 
@@ -54,6 +58,7 @@ fn take(partner: PartId, words: &[u8]) -> Option<Command>
         [] => Some(Command::Take {
             partner,
             channel: Channel::known(0),
+            wait: WAITS,
         }),
         [_, ..] => None,
     }

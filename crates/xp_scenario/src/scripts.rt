@@ -55,7 +55,7 @@ pub fn is_in_order(commands: &[Command]) -> bool
     let mut releases: u64 = 0;
     for command in commands {
         match command {
-            Command::Send { .. } => {}
+            Command::Send { .. } | Command::Drain { .. } => {}
             Command::Take { .. } => takes += 1,
             Command::Release { number, .. } => {
                 if *number != releases || releases >= takes {

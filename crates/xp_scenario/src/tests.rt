@@ -122,10 +122,21 @@ fn reads_one_message(rt: HostRuntime) -> Result<(), Fail> {
     assert_eq!(rt; scenario.scripts.list.len(), 2);
     assert_eq!(rt; scenario.scripts.list[0].len(), 1);
     assert_eq!(rt; scenario.scripts.list[1].len(), 2);
-    let Command::Send { payload, .. } = scenario.scripts.list[0].at(0) else {
+    let Command::Send {
+        payload,
+        wait,
+        notify,
+        ..
+    } = scenario.scripts.list[0].at(0)
+    else {
         return Err("no send".into());
     };
     assert_eq!(rt; payload.bytes(), b"hi".as_slice());
+    assert!(rt; *wait && !*notify);
+    let Command::Take { wait, .. } = scenario.scripts.list[1].at(0) else {
+        return Err("no take".into());
+    };
+    assert!(rt; *wait);
     Ok(())
 }
 

@@ -14,13 +14,13 @@
 //! rounds N                        any number of such lines, whose N sum to at most 8,000,000
 //! ```
 //!
-//! The scripts have at most 100,000 commands together.
+//! The scripts have at most 100,000 commands together. Each send and take waits, and no send asks for a notice.
 
 ghost use Rattle.std.specs.Prelude.{◌≡◌, nat_le, IfOk, IfSome};
 ghost use Rattle.xp_rules.specs.Scenario.{IsLawful, round_count};
 ghost use Rattle.xp_scenario.specs.Words.{Gives};
 ghost use Rattle.xp_scenario.specs.Lines.{lines_of};
-ghost use Rattle.xp_scenario.specs.Text.{size_of, warm_of, warm_in, opening_in, rounds_of, rounds_in, is_within, scenario_with, ending_of, scripts_of, scenario_of};
+ghost use Rattle.xp_scenario.specs.Text.{size_of, warm_of, warm_in, opening_in, rounds_of, rounds_in, is_within, scenario_with, ending_of, scripts_of, scenario_of, AreInOrder};
 
 use crate::lines::{after_line, next_line};
 use crate::scripts::{is_in_order, script};
@@ -29,6 +29,7 @@ use std::alloc::{AllocError, Global};
 use xp_base::ids::{Channel, PartId};
 use xp_rules::commands::{Command, Script};
 use xp_rules::scenario::{Faults, Scenario, Schedule, Scripts, Warm, Warms};
+use xp_script::lawful::are_few_rounds;
 
 /// How many turns a partition may take where nothing schedules it.
 const BUDGET: u64 = 1_000_000;
@@ -48,6 +49,7 @@ pub fn parse(alloc: Global, text: &[u8]) -> Result<Option<Scenario>, AllocError>
     // A scenario comes exactly where the text spells it.
     ensures value { IfOk result (λ scenario. scenario ≡ scenario_of text.now) }
     ensures lawful { IfOk result (λ scenario. IfSome scenario IsLawful) }
+    ensures ordered { IfOk result (λ scenario. IfSome scenario AreInOrder) }
 {
     if !text.ends_with(b"\n") {
         return Ok(None);
@@ -157,20 +159,7 @@ fn is_within(first: &[Command], second: &[Command], rounds: &[u64]) -> bool
         && second.len() <= COMMAND_LIMIT - first.len()
         && is_in_order(first)
         && is_in_order(second)
-        && are_few_rounds(rounds)
-}
-
-fn are_few_rounds(rounds: &[u64]) -> bool
-    ensures { result ≡ nat_le (round_count rounds.now) 8000000 }
-{
-    let mut left = ROUND_LIMIT;
-    for number in rounds {
-        if *number > left {
-            return false;
-        }
-        left -= *number;
-    }
-    true
+        && are_few_rounds(rounds, ROUND_LIMIT)
 }
 
 fn scenario(

@@ -1,7 +1,7 @@
 -- What a text spells is lawful.
 use Rattle.std.proofs.Common.{◌≡◌, ℕ, zero, suc, ◌+◌, ◌-◌, ◌<◌, ◌≤◌, cond, ltb, leb, eqb, ◌&&◌, ◌||◌, Bool, true, false, List, [], ◌∷◌, length, get_or, refl, ap, sym, subst, arith, Option, Some, None, Result, Ok, Err, IfSome}
 use Rattle.std.specs.Prelude.{codes, bytes_eq}
-use Rattle.std.proofs.lemmas.Bool.{and_parts, ltb-false, leb-true, eqb-true, ltb-true}
+use Rattle.std.proofs.lemmas.Bool.{and_parts, ltb-false, leb-true}
 use Rattle.hex.proofs.HexLemmas.{decode_of-ok}
 use Rattle.hex.specs.Hex.{decode_of}
 use Rattle.hex.specs.declared.error.FromHexError.{FromHexError}
@@ -10,7 +10,7 @@ use Rattle.xp_rules.specs.declared.commands.Command.TheVariants.{Send, Take, Rel
 use Rattle.xp_rules.specs.declared.setup.Setup.{Setup}
 use Rattle.xp_rules.specs.declared.scenario.Warm.{Warm}
 use Rattle.xp_rules.specs.declared.scenario.Scenario.{Scenario}
-use Rattle.xp_rules.specs.Setup.{IsPeer, AreBytes, IsLawfulCommand, AreLawfulCommands, ReleaseInOrder}
+use Rattle.xp_rules.specs.Setup.{IsPeer, AreBytes, IsLawfulCommand, AreLawfulCommands}
 use Rattle.xp_rules.specs.Scenario.{IsLawful, IsLawfulWarm, setup_of, round_count}
 use Rattle.xp_scenario.specs.Words.{◌>>=◌, when◌then◌else◌, behind, at_end, number_of, payload_of, decoded}
 use Rattle.xp_scenario.specs.Lines.{behind_line}
@@ -18,12 +18,12 @@ use Rattle.xp_scenario.specs.Commands.{peer, send_of, take_of, release_of, comma
 use Rattle.xp_scenario.specs.Text.{warm_with, entries_of, limit_of, size_of, warm_of, warm_in, opening_in, rounds_in, is_within, scenario_with, ending_of, scripts_of}
 
 -- a part that is there
-bind_some : {A B : Type 0} (o : Option A) (f : A → Option B) (y : B) → (o >>= f) ≡ Some y → (x : A) × (o ≡ Some x) × (f x ≡ Some y)
+pub bind_some : {A B : Type 0} (o : Option A) (f : A → Option B) (y : B) → (o >>= f) ≡ Some y → (x : A) × (o ≡ Some x) × (f x ≡ Some y)
 bind_some (Some x) f y e = (x, refl, e)
 bind_some None f y e = absurd cc
 
 -- a test that passed
-test_some : {A : Type 0} (b : Bool) (o : Option A) (y : A) → cond b o None ≡ Some y → (b ≡ true) × (o ≡ Some y)
+pub test_some : {A : Type 0} (b : Bool) (o : Option A) (y : A) → cond b o None ≡ Some y → (b ≡ true) × (o ≡ Some y)
 test_some true o y e = (refl, e)
 test_some false o y e = absurd cc
 
@@ -32,7 +32,7 @@ other_some : {A : Type 0} (b : Bool) (o : Option A) (y : A) → cond b None o �
 other_some true o y e = absurd cc
 other_some false o y e = (refl, e)
 
-same_some : {A : Type 0} (x y : A) → Some x ≡ Some y → x ≡ y
+pub same_some : {A : Type 0} (x y : A) → Some x ≡ Some y → x ≡ y
 same_some x y e = cc
 
 -- ---- payloads
@@ -65,11 +65,11 @@ payload_fits word payload e = short (bytes_eq word (codes "-")) word payload e
 send_lawful : (s : Setup) (q : ℕ) (words : List ℕ) (command : Command) → IsPeer s.part s.count q 0 → send_of q words ≡ Some command → IsLawfulCommand s command
 unfolding send_of
 send_lawful s q words command peers e =
-    let a = bind_some (behind (peer q) words) (λ more. behind (codes " ") more >>= λ word. payload_of word >>= λ payload. Some (Send q 0 payload true)) command e in
-    let b = bind_some (behind (codes " ") a.0) (λ word. payload_of word >>= λ payload. Some (Send q 0 payload true)) command a.2 in
-    let p = bind_some (payload_of b.0) (λ payload. Some (Send q 0 payload true)) command b.2 in
+    let a = bind_some (behind (peer q) words) (λ more. behind (codes " ") more >>= λ word. payload_of word >>= λ payload. Some (Send q 0 payload true false)) command e in
+    let b = bind_some (behind (codes " ") a.0) (λ word. payload_of word >>= λ payload. Some (Send q 0 payload true false)) command a.2 in
+    let p = bind_some (payload_of b.0) (λ payload. Some (Send q 0 payload true false)) command b.2 in
     let fits = payload_fits b.0 p.0 p.1 in
-    subst (λ (x : Command). IsLawfulCommand s x) (same_some (Send q 0 p.0 true) command p.2) (peers, fits.0, fits.1)
+    subst (λ (x : Command). IsLawfulCommand s x) (same_some (Send q 0 p.0 true false) command p.2) (peers, fits.0, fits.1)
 
 end_some : {A : Type 0} (x y : A) (bytes : List ℕ) → at_end x bytes ≡ Some y → x ≡ y
 end_some x y [] e = same_some x y e
@@ -78,8 +78,8 @@ end_some x y (b ∷ bs) e = absurd cc
 take_lawful : (s : Setup) (q : ℕ) (words : List ℕ) (command : Command) → IsPeer s.part s.count q 0 → take_of q words ≡ Some command → IsLawfulCommand s command
 unfolding take_of
 take_lawful s q words command peers e =
-    let a = bind_some (behind (peer q) words) (λ more. at_end (Take q 0) more) command e in
-    subst (λ (x : Command). IsLawfulCommand s x) (end_some (Take q 0) command a.0 a.2) peers
+    let a = bind_some (behind (peer q) words) (λ more. at_end (Take q 0 true) more) command e in
+    subst (λ (x : Command). IsLawfulCommand s x) (end_some (Take q 0 true) command a.0 a.2) peers
 
 release_lawful : (s : Setup) (q : ℕ) (words : List ℕ) (command : Command) → IsPeer s.part s.count q 0 → release_of q words ≡ Some command → IsLawfulCommand s command
 unfolding release_of
@@ -118,15 +118,6 @@ script_lawful : (s : Setup) (title : List ℕ) (q : ℕ) (lines : List (List ℕ
 unfolding script_in
 script_lawful s title q lines peers = titled s q (behind_line title lines) lines peers
 
-order_lawful : (takes releases : ℕ) (commands : List Command) → is_in_order takes releases commands ≡ true → ReleaseInOrder takes releases commands
-order_lawful takes releases [] e = tt
-order_lawful takes releases (Send q c payload wait ∷ more) e = order_lawful takes releases more e
-order_lawful takes releases (Take q c ∷ more) e = order_lawful (takes + 1) releases more e
-order_lawful takes releases (Release q c number ∷ more) e =
-    let a = and_parts (eqb number releases) (ltb releases takes && is_in_order takes (releases + 1) more) e in
-    let b = and_parts (ltb releases takes) (is_in_order takes (releases + 1) more) a.1 in
-    (eqb-true number releases a.0, ltb-true releases takes b.0, order_lawful takes (releases + 1) more b.1)
-
 -- ---- the channel
 
 size_lawful : (words : List ℕ) (warm : Warm) → size_of words ≡ Some warm → IsLawfulWarm 2 warm
@@ -164,7 +155,7 @@ opening_lawful lines found e =
 
 -- ---- the scenario
 
-of_two : (P : ℕ → Type 0) → P 0 → P 1 → (p : ℕ) → p < 2 → P p
+pub of_two : (P : ℕ → Type 0) → P 0 → P 1 → (p : ℕ) → p < 2 → P p
 of_two P a b zero lt = a
 of_two P a b (suc zero) lt = b
 of_two P a b (suc (suc n)) lt = absurd (omega arith)
@@ -187,7 +178,6 @@ with_lawful warm first second rounds w f g e =
       warms = (w, tt);
       scripts = refl;
       commands = of_two (λ p. AreLawfulCommands (setup_of (scenario_with warm first second rounds) p) (get_or (first ∷ second ∷ []) p [])) f g;
-      order = of_two (λ p. ReleaseInOrder 0 0 (get_or (first ∷ second ∷ []) p [])) (order_lawful 0 0 first b.0) (order_lawful 0 0 second d.0);
       few = omega (arith, few);
       rounds = omega (arith, sum);
     }
