@@ -6,21 +6,25 @@ use Rattle.xp_base.specs.declared.step.OpKind.TheVariants.{Load}
 use Rattle.xp_base.specs.declared.step.Answer.{Answer}
 use Rattle.xp_base.specs.declared.step.Answer.TheVariants.{Word, Failed}
 use Rattle.xp_base.specs.Memory.{Memory, answer_of}
-use Rattle.xp_base.specs.History.{Act, Begun, Answered, Marked, Turn, Event, Poked, Turned, IsAnswer, IsAnswered, after_answer, Legal, turns_of}
+use Rattle.xp_base.specs.History.{Act, Begun, Answered, Noticed, Marked, Turn, Event, Poked, Turned, IsAnswer, IsAnswered, after_answer, Legal, turns_of}
 use Rattle.xp_base.specs.History.{after_made as memory_made}
 use Rattle.xp_rules.specs.declared.setup.Setup.{Setup}
 use Rattle.xp_rules.specs.State.{State, End, link_of}
 use Rattle.xp_rules.specs.declared.rule.Rule.{Rule}
 use Rattle.xp_rules.specs.Setup.{IsLawfulSetup}
 use Rattle.xp_rules.specs.Rules.{Can, place, kind, owner, op_of}
-use Rattle.xp_rules.specs.Acts.{MayAct, MayActs, must_answer, is_accepted, send_answered, is_held, refusal_of, end_named, begun_with, upcoming, after_act, after_acts}
+use Rattle.xp_rules.specs.Acts.{MayAct, MayActs, must_answer, is_accepted, send_answered, take_told, release_told, drain_refusal, decided_for, end_named, begun_with, upcoming, after_act, after_acts}
 use Rattle.xp_base.specs.declared.answer.SendAnswer.{SendAnswer}
 use Rattle.xp_base.specs.declared.answer.SendAnswer.TheVariants.{Ok as SendOk, TooBig, Disconnecting, NotConnected, NoSlot}
+use Rattle.xp_base.specs.declared.answer.TakeAnswer.{TakeAnswer}
+use Rattle.xp_base.specs.declared.answer.ReleaseAnswer.{ReleaseAnswer}
 use Rattle.xp_base.specs.declared.link.LinkState.{LinkState}
 use Rattle.xp_base.specs.declared.link.LinkState.TheVariants.{Idle, Opening, Connected, Closing}
 use Rattle.xp_rules.specs.declared.commands.Command.{Command}
-use Rattle.xp_rules.specs.declared.commands.Command.TheVariants.{Send, Take, Release}
+use Rattle.xp_rules.specs.declared.commands.Command.TheVariants.{Send, Take, Release, Drain}
 use Rattle.xp_rules.specs.Sending.{send_refusal, link_refusal}
+use Rattle.xp_rules.specs.Pulling.{take_refusal}
+use Rattle.xp_rules.specs.Releasing.{Releasing, release_refusal, message_released}
 use Rattle.xp_rules.specs.Runs.{MayMake, May, RunsFrom}
 use Rattle.xp_rules.specs.Reached.{AreTurnsOf}
 use Rattle.xp_rules.proofs.Undo.{within, owner_low}
@@ -91,18 +95,34 @@ link_accepted Opening k e = cc
 link_accepted Connected k e = cc
 link_accepted (Closing reason) k e = cc
 
-refusal_accepted : (e : End) (x : Command) → is_accepted (refusal_of e x) ≡ false
-refusal_accepted e (Send q c payload wait) = cond_both e.warm _ _ (λ y. is_accepted y ≡ false) (λ d. sent_accepted (send_refusal (link_of e) payload e.send) (λ k. cond_both (ltb e.send.limit (length payload)) _ _ (λ y. y ≡ Some (SendOk k) → ⊥) (λ f g. cc) (λ f g. link_accepted (link_of e) k g))) (λ d. refl)
-refusal_accepted e (Take q c) = cond_both e.warm _ _ (λ y. is_accepted y ≡ false) (λ d. refl) (λ d. refl)
-refusal_accepted e (Release q c number) = cond_both e.warm _ _ (λ y. is_accepted y ≡ false) (λ d. cond_both (is_held e number) _ _ (λ y. is_accepted y ≡ false) (λ f. refl) (λ f. refl)) (λ d. refl)
+told_accepted : (o : Option TakeAnswer) → is_accepted (take_told o) ≡ false
+told_accepted None = refl
+told_accepted (Some a) = refl
+
+freed_accepted : (o : Option ReleaseAnswer) (number : ℕ) (x : Releasing) → is_accepted (release_told o number x) ≡ false
+freed_accepted None number x = cond_both (eqb x.front (message_released number x).front) _ _ (λ y. is_accepted y ≡ false) (λ d. refl) (λ d. refl)
+freed_accepted (Some a) number x = refl
+
+drain_accepted : (x : LinkState) → is_accepted (drain_refusal x) ≡ false
+drain_accepted Idle = refl
+drain_accepted Opening = refl
+drain_accepted Connected = refl
+drain_accepted (Closing reason) = refl
+
+decided_accepted : (e : End) (x : Command) → is_accepted (decided_for e x) ≡ false
+decided_accepted e (Send q c payload wait notify) = cond_both e.warm _ _ (λ y. is_accepted y ≡ false) (λ d. sent_accepted (send_refusal (link_of e) payload e.send) (λ k. cond_both (ltb e.send.limit (length payload)) _ _ (λ y. y ≡ Some (SendOk k) → ⊥) (λ f g. cc) (λ f g. link_accepted (link_of e) k g))) (λ d. refl)
+decided_accepted e (Take q c wait) = told_accepted (take_refusal (link_of e))
+decided_accepted e (Release q c number) = freed_accepted (release_refusal (link_of e) number e.ack) number e.ack
+decided_accepted e (Drain q c) = drain_accepted (link_of e)
 
 calm_begun : (st : State) (x : Option Command) → must_answer st ≡ false → must_answer (begun_with st x) ≡ false
 calm_begun st None h = h
-calm_begun st (Some x) h = refusal_accepted (end_named st x) x
+calm_begun st (Some x) h = decided_accepted (end_named st x) x
 
 calm_act : (su : Setup) (st : State) (a : Act) → must_answer st ≡ false → must_answer (after_act su st a) ≡ false
 calm_act su st Begun h = calm_begun st (upcoming su st) h
 calm_act su st Answered h = refl
+calm_act su st (Noticed q c) h = h
 
 pub calm_acts : (su : Setup) (st : State) (more : List Act) → must_answer st ≡ false → must_answer (after_acts su st more) ≡ false
 calm_acts su st [] h = h

@@ -1,5 +1,5 @@
 -- Nothing that is read is broken: no partition gets such a reason, and no log entry has one.
-use Rattle.std.proofs.Common.{◌≡◌, ℕ, zero, suc, ◌+◌, ◌-◌, ◌%◌, ◌<◌, ◌≤◌, Bool, true, false, cond, eqb, ltb, List, [], ◌∷◌, ◌++◌, length, get_or, replicate, refl, ap, sym, ◌∙◌, subst, arith, Option, Some, None, inl, inr, ◌⊎◌, length-append}
+use Rattle.std.proofs.Common.{◌≡◌, ℕ, zero, suc, ◌+◌, ◌-◌, ◌%◌, ◌<◌, ◌≤◌, Bool, true, false, ◌&&◌, cond, eqb, ltb, List, [], ◌∷◌, ◌++◌, length, get_or, replicate, refl, ap, sym, ◌∙◌, subst, arith, Option, Some, None, inl, inr, ◌⊎◌, length-append}
 use Rattle.std.specs.List.{slice_get}
 use Rattle.std.proofs.lemmas.Bool.{cases_lt, eqb-true, cond_both}
 use Rattle.std.proofs.lemmas.List.{get_or-replicate, get_or_past, length-replicate}
@@ -7,12 +7,13 @@ use Rattle.xp_base.specs.declared.step.Answer.TheVariants.{Word, Failed}
 use Rattle.xp_base.specs.declared.step.CopyMark.{CopyMark}
 use Rattle.xp_base.specs.declared.reason.Reason.{Reason}
 use Rattle.xp_base.specs.declared.answer.SendAnswer.{SendAnswer}
+use Rattle.xp_base.specs.declared.answer.ReleaseAnswer.{ReleaseAnswer}
 use Rattle.xp_base.specs.declared.link.LinkState.{LinkState}
 use Rattle.xp_base.specs.declared.link.LinkState.TheVariants.{Connected, Idle}
-use Rattle.xp_base.specs.History.{Act, Begun, Answered}
-use Rattle.xp_base.specs.Places.{Counter}
+use Rattle.xp_base.specs.History.{Act, Begun, Answered, Noticed}
+use Rattle.xp_base.specs.Places.{Counter, Flag}
 use Rattle.xp_rules.specs.declared.commands.Command.{Command}
-use Rattle.xp_rules.specs.declared.commands.Command.TheVariants.{Send, Take, Release}
+use Rattle.xp_rules.specs.declared.commands.Command.TheVariants.{Send, Take, Release, Drain}
 use Rattle.xp_rules.specs.declared.log.LogAnswer.{LogAnswer}
 use Rattle.xp_rules.specs.declared.log.Entry.{Entry as LogEntry}
 use Rattle.xp_rules.specs.declared.engage.Engagement.{Engagement}
@@ -20,34 +21,36 @@ use Rattle.xp_rules.specs.declared.rule.RingRule.{RingRule}
 use Rattle.xp_rules.specs.declared.rule.RingRule.TheVariants.{ReadGet, WriteEntryWord, AcceptMessage}
 use Rattle.xp_rules.specs.declared.rule.PullRule.TheVariants.{ReadCounters, ReadEntry}
 use Rattle.xp_rules.specs.declared.rule.Rule.{Rule}
-use Rattle.xp_rules.specs.declared.rule.Rule.TheVariants.{Ring, Pull, Acknowledge}
+use Rattle.xp_rules.specs.declared.rule.Rule.TheVariants.{Ring, Pull, Acknowledge, TakeFlags, SetFlag}
 use Rattle.xp_rules.specs.declared.setup.Link.{Link}
 use Rattle.xp_rules.specs.declared.setup.Setup.{Setup}
 use Rattle.xp_rules.specs.declared.scenario.Scenario.{Scenario}
 use Rattle.xp_rules.specs.Scenario.{setup_of, IsLawful}
 use Rattle.xp_rules.specs.Sending.{Sending, ring_answer, is_bad_get, is_full, send_refusal}
-use Rattle.xp_rules.specs.Pulling.{counters_word, counters_fault, entry_fault}
-use Rattle.xp_rules.specs.State.{State, Scripted, End, start, end_of, engage_of, no_engagement, no_engagements}
+use Rattle.xp_rules.specs.Pulling.{Pulling, counters_word, counters_fault, entry_fault, take_refusal, first_taken, found, found_by}
+use Rattle.xp_rules.specs.Releasing.{Releasing, release_refusal, message_released}
+use Rattle.xp_rules.specs.State.{State, Scripted, End, start, end_of, link_of, engage_of, no_engagement, no_engagements}
 use Rattle.xp_rules.specs.Rules.{Can, partner_of, fault_of, given, copy_error, mark_of, send_decided, release_decided}
 use Rattle.xp_rules.specs.Logged.{verb_of, begun_entry, last_answered}
-use Rattle.xp_rules.specs.Acts.{upcoming, current, refusal_of, send_answered, is_held, begun_with, end_named, first_taken, due_to, decided_or, due}
+use Rattle.xp_rules.specs.Acts.{upcoming, current, decided_for, send_answered, take_told, release_told, drain_refusal, drained, begun_with, end_named, due_to, decided_or, due}
 use Rattle.xp_rules.specs.Promised.{is_broken, reason_in}
-use Rattle.xp_laws.proofs.Slots.{at_slot}
+use Rattle.xp_rules.proofs.Slots.{at_slot}
 use Rattle.xp_laws.proofs.Words.{Words}
 use Rattle.xp_laws.proofs.Parts.{Part, part_act, part_ruled}
 use Rattle.xp_laws.proofs.Always.{told}
+use Rattle.xp_laws.proofs.Flags.{Requested, no_bad_flags}
 use Rattle.xp_laws.proofs.Links.{HasLink, mirror, mirrored, get_both}
-use Rattle.xp_laws.proofs.Direction.{Out, In, Kept, get_good, put_good, entry_good}
+use Rattle.xp_laws.proofs.Direction.{Out, In, Kept, beside, get_good, put_good, entry_good}
 use Rattle.xp_laws.proofs.Lines.{Good, out_at, in_at, warm_link}
 
 -- no word that a rule reads gives a reason
-counters_fault_none : (own : Out) (theirs : In) (o : Out) (i : In) (copy : Option ℕ) (v : ℕ) → (copy ≡ None → v ≡ theirs.get) → ((g : ℕ) → copy ≡ Some g → v ≡ o.put) → Kept own theirs → Kept o i → counters_fault own.send i.front copy i.pull v ≡ None
+counters_fault_none : (own : Out) (theirs : In) (o : Out) (i : In) (copy : Option ℕ) (v : ℕ) → (copy ≡ None → v ≡ theirs.get) → ((g : ℕ) → copy ≡ Some g → v ≡ o.put) → Kept own theirs → Kept o i → counters_fault (beside own i) copy i.pull v ≡ None
 counters_fault_none own theirs o i None v e f h k =
-    let P : ℕ → Type 0 = λ x. counters_fault own.send i.front None i.pull x ≡ None in
+    let P : ℕ → Type 0 = λ x. counters_fault (beside own i) None i.pull x ≡ None in
     subst P (sym (e refl)) (rw (get_good own theirs h) refl)
 counters_fault_none own theirs o i (Some g) v e f h k =
-    let P : ℕ → Type 0 = λ x. counters_fault own.send i.front (Some g) i.pull x ≡ None in
-    subst P (sym (f g refl)) (rw (put_good o i k) refl)
+    let P : ℕ → Type 0 = λ x. counters_fault (beside own i) (Some g) i.pull x ≡ None in
+    subst P (sym (f g refl)) (rw (put_good own o i k) refl)
 
 entry_fault_none : (o : Out) (i : In) → i.pull.pulled < i.pull.pulled_put → Kept o i → (if_whole : Bool) → eqb (length i.pull.copied + 1) 16 ≡ if_whole → cond if_whole (entry_fault i.pull (i.pull.copied ++ o.entry (i.pull.pulled % i.pull.entries) (length i.pull.copied) ∷ [])) None ≡ None
 entry_fault_none o i l h false e = refl
@@ -66,20 +69,22 @@ module _ (s : Scenario) (law : IsLawful s) (w : Words) (σ : ℕ → Part) (a : 
   pub get_told_good : (q c : ℕ) → Can (setup_of s a) (σ a).state (Ring q c ReadGet) → is_bad_get (end_of (σ a).state q c).send (word_told (Ring q c ReadGet)) ≡ false
   get_told_good q c can = let l = warm_link s law a q c (σ a) (good.fixed a low) can.0.warm in get_good (out_at (w a) (σ a) q c) (in_at (w q) (σ q) a c) (sent_by q c l.0 l.1)
 
-  pub no_fault : (r : Rule) → Can (setup_of s a) (σ a).state r → fault_of (σ a).state r (word_told r) ≡ None
-  no_fault (Ring q c ReadGet) can = rw (get_told_good q c can) refl
-  no_fault (Ring q c (WriteEntryWord f)) can = refl
-  no_fault (Ring q c AcceptMessage) can = refl
-  no_fault (Pull q c ReadCounters) can =
+  pub no_fault : Requested w → (r : Rule) → Can (setup_of s a) (σ a).state r → fault_of (σ a).state r (word_told r) ≡ None
+  no_fault flags (Ring q c ReadGet) can = rw (get_told_good q c can) refl
+  no_fault flags (Ring q c (WriteEntryWord f)) can = refl
+  no_fault flags (Ring q c AcceptMessage) can = refl
+  no_fault flags (Pull q c ReadCounters) can =
       let l = warm_link s law a q c (σ a) (good.fixed a low) can.0.warm in
       let e = end_of (σ a).state q c in
       let first : e.pull.counters ≡ None → word_told (Pull q c ReadCounters) ≡ w q (Counter a c 0) = λ d. ap (λ (y : Option ℕ). w q (Counter a c (counters_word y))) d in
       let second : (g : ℕ) → e.pull.counters ≡ Some g → word_told (Pull q c ReadCounters) ≡ w q (Counter a c 1) = λ g d. ap (λ (y : Option ℕ). w q (Counter a c (counters_word y))) d in
       counters_fault_none (out_at (w a) (σ a) q c) (in_at (w q) (σ q) a c) (out_at (w q) (σ q) a c) (in_at (w a) (σ a) q c) e.pull.counters (word_told (Pull q c ReadCounters)) first second (sent_by q c l.0 l.1) (got_by q c l.0 l.1)
-  no_fault (Pull q c ReadEntry) can =
+  no_fault flags (Pull q c ReadEntry) can =
       let l = warm_link s law a q c (σ a) (good.fixed a low) can.0.warm in
       entry_fault_none (out_at (w q) (σ q) a c) (in_at (w a) (σ a) q c) can.1.0 (got_by q c l.0 l.1) (eqb (length (end_of (σ a).state q c).pull.copied + 1) 16) refl
-  no_fault (Acknowledge q c) can = refl
+  no_fault flags (Acknowledge q c) can = refl
+  no_fault flags (TakeFlags q) can = no_bad_flags (w a (Flag q)) (flags a q)
+  no_fault flags (SetFlag q c) can = refl
 
 -- how a partition stands to its partners
 abbrev pub Partners : Part → Type 0
@@ -100,6 +105,7 @@ begun_engages st (Some x) = refl
 pub partners_act : (su : Setup) (k : Part) (x : Act) → Partners k → Partners (part_act su k x)
 partners_act su k Begun h q = ap (λ (es : List Engagement). is_broken (get_or es q no_engagement).reason) (begun_engages k.state (upcoming su k.state)) ∙ h q
 partners_act su k Answered h q = h q
+partners_act su k (Noticed p d) h q = h q
 
 pub partners_rule : (k : Part) (r : Rule) (v : ℕ) → fault_of k.state r v ≡ None → Partners k → Partners (part_ruled k r (Word v))
 partners_rule k r v e h q = partners_given k.state.engages (partner_of r) (fault_of k.state r v) (ap is_broken e) h q
@@ -132,25 +138,45 @@ blame_ring x ReadGet v = cond_both (is_bad_get x v) _ _ (λ y. reason_in (send_a
 blame_ring x (WriteEntryWord f) v = refl
 blame_ring x AcceptMessage v = refl
 
-blame_refusal : (e : End) (x : Command) → reason_in (refusal_of e x) ≡ None
-blame_refusal e (Send q c payload wait) =
+blame_take : (e : End) → reason_in (take_told (take_refusal (link_of e))) ≡ None
+blame_take e = cond_both e.warm Connected Idle (λ y. reason_in (take_told (take_refusal y)) ≡ None) (λ d. refl) (λ d. refl)
+
+blame_release_told : (o : Option ReleaseAnswer) (number : ℕ) (x : Releasing) → reason_in (release_told o number x) ≡ None
+blame_release_told None number x = cond_both (eqb x.front (message_released number x).front) _ _ (λ y. reason_in y ≡ None) (λ d. refl) (λ d. refl)
+blame_release_told (Some a) number x = refl
+
+blame_decided : (e : End) (x : Command) → reason_in (decided_for e x) ≡ None
+blame_decided e (Send q c payload wait notify) =
     cond_both e.warm _ _ (λ y. reason_in y ≡ None)
     (λ d.
     let P : LinkState → Type 0 = λ y. reason_in (send_answered (send_refusal y payload e.send)) ≡ None in
     cond_both e.warm Connected Idle P (λ f. cond_both (ltb e.send.limit (length payload)) _ _ (λ y. reason_in (send_answered y) ≡ None) (λ g. refl) (λ g. refl)) (λ f. cond_both (ltb e.send.limit (length payload)) _ _ (λ y. reason_in (send_answered y) ≡ None) (λ g. refl) (λ g. refl)))
     (λ d. refl)
-blame_refusal e (Take q c) = cond_both e.warm _ _ (λ y. reason_in y ≡ None) (λ d. refl) (λ d. refl)
-blame_refusal e (Release q c number) = cond_both e.warm _ _ (λ y. reason_in y ≡ None) (λ d. cond_both (is_held e number) _ _ (λ y. reason_in y ≡ None) (λ f. refl) (λ f. refl)) (λ d. refl)
+blame_decided e (Take q c wait) = blame_take e
+blame_decided e (Release q c number) = blame_release_told (release_refusal (link_of e) number e.ack) number e.ack
+blame_decided e (Drain q c) = cond_both e.warm Connected Idle (λ y. reason_in (drain_refusal y) ≡ None) (λ d. refl) (λ d. refl)
 
-blame_taken : (number : ℕ) (cs : List (List ℕ)) → reason_in (first_taken number cs) ≡ None
-blame_taken number [] = refl
-blame_taken number (b ∷ bs) = refl
+blame_first : (number : ℕ) (cs : List (List ℕ)) → reason_in (take_told (first_taken number cs)) ≡ None
+blame_first number [] = refl
+blame_first number (b ∷ bs) = refl
+
+blame_found : (number : ℕ) (shown : Option ℕ) (cs : List (List ℕ)) → reason_in (take_told (found number shown cs)) ≡ None
+blame_found number None cs = blame_first number cs
+blame_found number (Some put) cs = refl
+
+blame_found_by : (take : Option Bool) (x : Pulling) → reason_in (take_told (found_by take x)) ≡ None
+blame_found_by None x = refl
+blame_found_by (Some wait) x = blame_found x.taken x.empty x.cache
+
+blame_drained : (e : End) → reason_in (drained e) ≡ None
+blame_drained e = cond_both (e.warm && eqb e.send.known e.send.put) _ _ (λ y. reason_in y ≡ None) (λ d. refl) (λ d. refl)
 
 blame_due : (st : State) (x : Option Command) → reason_in (due_to st x) ≡ None
 blame_due st None = refl
-blame_due st (Some (Send q c payload wait)) = refl
-blame_due st (Some (Take q c)) = cond_both (end_of st q c).warm _ _ (λ y. reason_in y ≡ None) (λ d. blame_taken (end_of st q c).pull.taken (end_of st q c).pull.cache) (λ d. refl)
+blame_due st (Some (Send q c payload wait notify)) = refl
+blame_due st (Some (Take q c wait)) = blame_found_by (end_of st q c).pull.take (end_of st q c).pull
 blame_due st (Some (Release q c number)) = refl
+blame_due st (Some (Drain q c)) = blame_drained (end_of st q c)
 
 blame_or : (d later : Option LogAnswer) → reason_in d ≡ None → reason_in later ≡ None → reason_in (decided_or d later) ≡ None
 blame_or None later e f = f
@@ -158,7 +184,7 @@ blame_or (Some a) later e f = e
 
 blame_begun : (st : State) (x : Option Command) → reason_in st.script.decided ≡ None → reason_in (begun_with st x).script.decided ≡ None
 blame_begun st None h = h
-blame_begun st (Some x) h = blame_refusal (end_named st x) x
+blame_begun st (Some x) h = blame_decided (end_named st x) x
 
 entry_begun : (n : ℕ) (x : Option Command) (i : ℕ) (y : LogEntry) → slice_get (begun_entry n x) i ≡ Some y → reason_in y.answer ≡ None
 entry_begun n None i y e = absurd (cc)
@@ -185,11 +211,14 @@ unblamed_act su k Answered h = record {
   entries = entries_answered k.logged.entries (due su k.state) (cond_both k.state.script.doing _ _ (λ y. reason_in y ≡ None) (λ d. blame_or k.state.script.decided (due_to k.state (current su k.state)) h.decided (blame_due k.state (current su k.state))) (λ d. refl)) h.entries;
   decided = refl;
 }
+unblamed_act su k (Noticed q c) h = record { entries = h.entries; decided = h.decided }
 
 pub unblamed_rule : (k : Part) (r : Rule) (v : ℕ) → Unblamed k → Unblamed (part_ruled k r (Word v))
 unblamed_rule k (Ring q c m) v h = record { entries = h.entries; decided = blame_send (ring_answer (end_of k.state q c).send m v) k.state.script (blame_ring (end_of k.state q c).send m v) h.decided }
 unblamed_rule k (Pull q c m) v h = record { entries = h.entries; decided = h.decided }
 unblamed_rule k (Acknowledge q c) v h = record { entries = h.entries; decided = blame_release (end_of k.state q c) k.state.script h.decided }
+unblamed_rule k (TakeFlags q) v h = record { entries = h.entries; decided = h.decided }
+unblamed_rule k (SetFlag q c) v h = record { entries = h.entries; decided = h.decided }
 
 pub unblamed_failed : (k : Part) (r : Rule) → Unblamed k → Unblamed (part_ruled k r Failed)
 unblamed_failed k r h = record { entries = h.entries; decided = h.decided }

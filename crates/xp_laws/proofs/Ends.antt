@@ -1,20 +1,15 @@
 -- The ends of a partition: what a change of one leaves, and what they are at the opening.
-use Rattle.std.proofs.Common.{◌≡◌, ℕ, zero, suc, ◌+◌, ◌<◌, ◌≤◌, true, List, [], ◌∷◌, length, get_or, set, replicate, refl, ap, sym, ◌∙◌, subst, arith, get_or-set_same, get_or-set_other, Some, inl, inr, ◌⊎◌}
+use Rattle.std.proofs.Common.{◌≡◌, ℕ, zero, suc, ◌+◌, ◌<◌, ◌≤◌, ◌&&◌, true, List, [], ◌∷◌, length, get_or, set, replicate, refl, ap, sym, ◌∙◌, subst, arith, get_or-set_same, get_or-set_other, Some, inl, inr, ◌⊎◌}
 use Rattle.std.specs.List.{slice_get}
-use Rattle.std.proofs.lemmas.Bool.{cases_lt, cases_eq}
+use Rattle.std.proofs.lemmas.Bool.{cases_lt, cases_eq, cond_both}
 use Rattle.std.proofs.lemmas.List.{get_or_past, get_or-replicate, length-replicate, length-set}
 use Rattle.xp_rules.specs.declared.setup.Link.{Link}
 use Rattle.xp_rules.specs.declared.scenario.Scenario.{Scenario}
 use Rattle.xp_rules.specs.Scenario.{setup_of, links_of, IsLawful}
 use Rattle.xp_rules.specs.State.{End, start, end_at, end_of, set_end, idle_end, warm_end, opened_ends, idle_ends}
-use Rattle.xp_laws.proofs.Slots.{at_slot}
+use Rattle.xp_rules.specs.Flags.{is_bad_flags, is_requested, ends_requested, row_flagged}
+use Rattle.xp_rules.proofs.Slots.{at_slot, at_end}
 use Rattle.xp_laws.proofs.Links.{HasLink, once, found}
-
--- a fact of an end after one was replaced
-pub at_end : (P : End → Type 0) (ends : List (List End)) (k d : ℕ) (x : End) (q c : ℕ) → (q ≡ k → c ≡ d → P x) → P (end_at ends q c) → P (end_at (set_end ends k d x) q c)
-at_end P ends k d x q c new old =
-    at_slot (λ (row : List End). P (get_or row c idle_end)) ends k q (set (get_or ends k []) d x) []
-    (λ e. at_slot P (get_or ends k []) d c x idle_end (λ f. new e f) (subst (λ (j : ℕ). P (end_at ends j c)) e old)) old
 
 abbrev pub Other : ℕ → ℕ → ℕ → ℕ → Type 0
 Other q c k d = q ≡ k → c ≡ d → ⊥
@@ -25,6 +20,25 @@ end_other ends k d x q c other = at_end (λ (y : End). y ≡ end_at ends q c) en
 -- what the new end has as the old one stays everywhere
 pub stays_end : {A : Type 0} (f : End → A) (ends : List (List End)) (k d : ℕ) (x : End) (q c : ℕ) → f x ≡ f (end_at ends k d) → f (end_at (set_end ends k d x) q c) ≡ f (end_at ends q c)
 stays_end f ends k d x q c e = at_end (λ (y : End). f y ≡ f (end_at ends q c)) ends k d x q c (λ a b. e ∙ (λ i. f (end_at ends (sym a i) (sym b i)))) refl
+
+-- the flags of a partner are taken: which copies are owed changes, and nothing else
+row_requested : (P : End → Type 0) → ((e : End) → P e → P (record e { pull = record e.pull { owed = true } })) → (v c : ℕ) (row : List End) (i : ℕ) → P (get_or row i idle_end) → P (get_or (ends_requested v c row) i idle_end)
+row_requested P more v c [] i h = h
+row_requested P more v c (e ∷ es) zero h = cond_both (e.warm && is_requested v c) _ e P (λ d. more e h) (λ d. h)
+row_requested P more v c (e ∷ es) (suc i) h = row_requested P more v (c + 1) es i h
+
+pub at_flagged : (P : End → Type 0) → ((e : End) → P e → P (record e { pull = record e.pull { owed = true } })) → (ends : List (List End)) (k v q c : ℕ) → P (end_at ends q c) → P (end_at (set ends k (row_flagged v (get_or ends k []))) q c)
+at_flagged P more ends k v q c h =
+    let row = get_or ends k [] in
+    let R : List End → Type 0 = λ es. P (get_or es c idle_end) in
+    at_slot R ends k q (row_flagged v row) []
+    (λ e.
+    let old : R row = subst (λ (j : ℕ). P (end_at ends j c)) e h in
+    cond_both (is_bad_flags v) row (ends_requested v 0 row) R (λ d. old) (λ d. row_requested P more v 0 row c old))
+    h
+
+pub stays_flagged : {A : Type 0} (f : End → A) → ((e : End) → f (record e { pull = record e.pull { owed = true } }) ≡ f e) → (ends : List (List End)) (k v q c : ℕ) → f (end_at (set ends k (row_flagged v (get_or ends k []))) q c) ≡ f (end_at ends q c)
+stays_flagged f same ends k v q c = at_flagged (λ (y : End). f y ≡ f (end_at ends q c)) (λ e h. same e ∙ h) ends k v q c refl
 
 -- a connected end stands in the lists
 warm_row : (ends : List (List End)) (q c : ℕ) → (end_at ends q c).warm ≡ true → q < length ends

@@ -7,14 +7,14 @@ use Rattle.std.proofs.lemmas.Bool.{cond_both}
 use Rattle.xp_base.specs.declared.step.Answer.{Answer}
 use Rattle.xp_base.specs.declared.step.Answer.TheVariants.{Word, Failed}
 use Rattle.xp_base.specs.declared.answer.SendAnswer.{SendAnswer}
-use Rattle.xp_base.specs.History.{Act, Begun, Answered}
+use Rattle.xp_base.specs.History.{Act, Begun, Answered, Noticed}
 use Rattle.xp_rules.specs.declared.commands.Command.{Command}
-use Rattle.xp_rules.specs.declared.commands.Command.TheVariants.{Send, Take, Release}
+use Rattle.xp_rules.specs.declared.commands.Command.TheVariants.{Send, Take, Release, Drain}
 use Rattle.xp_rules.specs.declared.log.Verb.TheVariants.{Send as SendVerb}
 use Rattle.xp_rules.specs.declared.log.LogAnswer.{LogAnswer}
 use Rattle.xp_rules.specs.declared.log.Entry.{Entry}
 use Rattle.xp_rules.specs.declared.rule.Rule.{Rule}
-use Rattle.xp_rules.specs.declared.rule.Rule.TheVariants.{Ring, Pull, Acknowledge}
+use Rattle.xp_rules.specs.declared.rule.Rule.TheVariants.{Ring, Pull, Acknowledge, TakeFlags, SetFlag}
 use Rattle.xp_rules.specs.declared.setup.Setup.{Setup}
 use Rattle.xp_rules.specs.Sending.{ring_answer}
 use Rattle.xp_rules.specs.State.{State, Scripted, End, end_of}
@@ -86,12 +86,16 @@ script_begun : (k : Part) (r : Rule) (b : Answer) → (part_ruled k r b).state.s
 script_begun k (Ring q c m) (Word v) = decided_begun (ring_answer (end_of k.state q c).send m v) k.state.script
 script_begun k (Pull q c m) (Word v) = refl
 script_begun k (Acknowledge q c) (Word v) = release_begun (end_of k.state q c) k.state.script
+script_begun k (TakeFlags q) (Word v) = refl
+script_begun k (SetFlag q c) (Word v) = refl
 script_begun k r Failed = refl
 
 script_doing : (k : Part) (r : Rule) (b : Answer) → (part_ruled k r b).state.script.doing ≡ k.state.script.doing
 script_doing k (Ring q c m) (Word v) = decided_doing (ring_answer (end_of k.state q c).send m v) k.state.script
 script_doing k (Pull q c m) (Word v) = refl
 script_doing k (Acknowledge q c) (Word v) = release_doing (end_of k.state q c) k.state.script
+script_doing k (TakeFlags q) (Word v) = refl
+script_doing k (SetFlag q c) (Word v) = refl
 script_doing k r Failed = refl
 
 pub log_rule : (su : Setup) (k : Part) (r : Rule) (b : Answer) → Log su k → Log su (part_ruled k r b)
@@ -106,18 +110,20 @@ log_rule su k r b h = record {
 -- a command is begun
 begun_later : (st : State) (c : Option Command) (xs : List Sent) (x : Entry) → IsEntryOf xs x → IsEntryOf (begun_send st c xs) x
 begun_later st None xs x h = h
-begun_later st (Some (Send q c payload wait)) xs x h = record { send = h.send; place = suc h.place; listed = h.listed; number = h.number; answer = h.answer }
-begun_later st (Some (Take q c)) xs x h = h
+begun_later st (Some (Send q c payload wait notify)) xs x h = record { send = h.send; place = suc h.place; listed = h.listed; number = h.number; answer = h.answer }
+begun_later st (Some (Take q c wait)) xs x h = h
 begun_later st (Some (Release q c number)) xs x h = h
+begun_later st (Some (Drain q c)) xs x h = h
 
 new_entry : (n : ℕ) (c : Command) (i : ℕ) (x : Entry) → slice_get (begun_entry n (Some c)) i ≡ Some x → (i ≡ 0) × (record { boot = 1; number = n; verb = verb_of c; answer = None } ≡ x)
 new_entry n c zero x e = (refl, cc)
 new_entry n c (suc i) x e = absurd (cc)
 
 new_matched : (st : State) (c : Command) (xs : List Sent) (x : Entry) → record { boot = 1; number = st.script.begun + 1; verb = verb_of c; answer = None } ≡ x → x.verb ≡ SendVerb → IsEntryOf (begun_send st (Some c) xs) x
-new_matched st (Send q c payload wait) xs x e v = record { send = record { number = st.script.begun + 1; partner = q; channel = c; payload = payload; wait = wait; beginning = end_of st q c; steps = []; answer = None }; place = 0; listed = refl; number = ap (λ (y : Entry). y.number) e; answer = ap (λ (y : Entry). y.answer) e }
-new_matched st (Take q c) xs x e v = let f = ap (λ (y : Entry). y.verb) e ∙ v in absurd (cc)
+new_matched st (Send q c payload wait notify) xs x e v = record { send = record { number = st.script.begun + 1; partner = q; channel = c; payload = payload; wait = wait; beginning = end_of st q c; steps = []; answer = None }; place = 0; listed = refl; number = ap (λ (y : Entry). y.number) e; answer = ap (λ (y : Entry). y.answer) e }
+new_matched st (Take q c wait) xs x e v = let f = ap (λ (y : Entry). y.verb) e ∙ v in absurd (cc)
 new_matched st (Release q c number) xs x e v = let f = ap (λ (y : Entry). y.verb) e ∙ v in absurd (cc)
+new_matched st (Drain q c) xs x e v = let f = ap (λ (y : Entry). y.verb) e ∙ v in absurd (cc)
 
 module _ (su : Setup) (st : State) (es : List Entry) (xs : List Sent) (h : LogOf su st es xs) where
   begun_one : (c : Command) → upcoming su st ≡ Some c → LogOf su (begun_with st (Some c)) (es ++ begun_entry (st.script.begun + 1) (Some c)) (begun_send st (Some c) xs)
@@ -171,9 +177,10 @@ length-answered (y ∷ z ∷ more) a = ap suc (length-answered (z ∷ more) a)
 -- the sends after an answer: an earlier one is as it was
 earlier_matched : (c : Option Command) (a : Option LogAnswer) (y : Sent) (ys : List Sent) (x : Entry) → (x.number ≡ y.number → ⊥) → IsEntryOf (y ∷ ys) x → IsEntryOf (answered_send c a (y ∷ ys)) x
 earlier_matched None a y ys x n h = h
-earlier_matched (Some (Take q c)) a y ys x n h = h
+earlier_matched (Some (Take q c wait)) a y ys x n h = h
 earlier_matched (Some (Release q c number)) a y ys x n h = h
-earlier_matched (Some (Send q c payload wait)) a y ys x n h = by h.place h.listed
+earlier_matched (Some (Drain q c)) a y ys x n h = h
+earlier_matched (Some (Send q c payload wait notify)) a y ys x n h = by h.place h.listed
   where
     by : (i : ℕ) → slice_get (y ∷ ys) i ≡ Some h.send → IsEntryOf (record y { answer = a } ∷ ys) x
     by zero e = let d : y ≡ h.send = cc in absurd (n (sym h.number ∙ sym (ap (λ (w : Sent). w.number) d)))
@@ -200,18 +207,20 @@ answered_matched su k some sends h n x v a o e = by o e a.is
     by : (o : Option Command) → current su k.state ≡ o → ((n + 1 < length k.logged.entries) × (x ≡ a.entry)) ⊎ ((n + 1 ≡ length k.logged.entries) × (x ≡ record a.entry { answer = due su k.state })) → IsEntryOf (answered_send o (due su k.state) k.sends) x
     by None f (inl i) = old i.1
     by None f (inr i) = let c = h.now doing in let never : None ≡ Some c.0 = sym f ∙ c.1 in absurd (cc)
-    by (Some (Take q c)) f (inl i) = old i.1
-    by (Some (Take q c)) f (inr i) = let w = sym v ∙ ap (λ (z : Entry). z.verb) i.1 ∙ verb_last (Take q c) f i.0 in absurd (cc)
+    by (Some (Take q c wait)) f (inl i) = old i.1
+    by (Some (Take q c wait)) f (inr i) = let w = sym v ∙ ap (λ (z : Entry). z.verb) i.1 ∙ verb_last (Take q c wait) f i.0 in absurd (cc)
     by (Some (Release q c number)) f (inl i) = old i.1
     by (Some (Release q c number)) f (inr i) = let w = sym v ∙ ap (λ (z : Entry). z.verb) i.1 ∙ verb_last (Release q c number) f i.0 in absurd (cc)
-    by (Some (Send q c payload wait)) f (inl i) =
-        let d = sends.head doing q c payload wait f in
+    by (Some (Drain q c)) f (inl i) = old i.1
+    by (Some (Drain q c)) f (inr i) = let w = sym v ∙ ap (λ (z : Entry). z.verb) i.1 ∙ verb_last (Drain q c) f i.0 in absurd (cc)
+    by (Some (Send q c payload wait notify)) f (inl i) =
+        let d = sends.head doing q c payload wait notify f in
         let other : x.number ≡ d.sent.number → ⊥ = λ g. absurd (omega (arith, g, d.number, ap (λ (z : Entry). z.number) i.1, entry_number, i.0, h.count)) in
-        subst (λ (ys : List Sent). IsEntryOf (answered_send (Some (Send q c payload wait)) (due su k.state) ys) x) (sym d.sends_are) (earlier_matched (Some (Send q c payload wait)) (due su k.state) d.sent d.earlier x other (subst (λ (ys : List Sent). IsEntryOf ys x) d.sends_are (old i.1)))
-    by (Some (Send q c payload wait)) f (inr i) =
-        let d = sends.head doing q c payload wait f in
+        subst (λ (ys : List Sent). IsEntryOf (answered_send (Some (Send q c payload wait notify)) (due su k.state) ys) x) (sym d.sends_are) (earlier_matched (Some (Send q c payload wait notify)) (due su k.state) d.sent d.earlier x other (subst (λ (ys : List Sent). IsEntryOf ys x) d.sends_are (old i.1)))
+    by (Some (Send q c payload wait notify)) f (inr i) =
+        let d = sends.head doing q c payload wait notify f in
         let number : d.sent.number ≡ x.number = omega (arith, d.number, ap (λ (z : Entry). z.number) i.1, entry_number, i.0, h.count) in
-        subst (λ (ys : List Sent). IsEntryOf (answered_send (Some (Send q c payload wait)) (due su k.state) ys) x) (sym d.sends_are) (record { send = record d.sent { answer = due su k.state }; place = 0; listed = refl; number = number; answer = sym (ap (λ (z : Entry). z.answer) i.1) })
+        subst (λ (ys : List Sent). IsEntryOf (answered_send (Some (Send q c payload wait notify)) (due su k.state) ys) x) (sym d.sends_are) (record { send = record d.sent { answer = due su k.state }; place = 0; listed = refl; number = number; answer = sym (ap (λ (z : Entry). z.answer) i.1) })
 
 pub log_answered : (su : Setup) (k : Part) → IsSome (due su k.state) → Sends su k → Log su k → Log su (part_act su k Answered)
 log_answered su k some sends h = record {
@@ -239,3 +248,4 @@ log_begun su k (Some c) u h = begun_one su k.state k.logged.entries k.sends h c 
 pub log_act : (su : Setup) (k : Part) (x : Act) → MayAct su k.state x → Sends su k → Log su k → Log su (part_act su k x)
 log_act su k Begun may sends h = log_begun su k (upcoming su k.state) refl h
 log_act su k Answered may sends h = log_answered su k may sends h
+log_act su k (Noticed q c) may sends h = record { count = h.count; numbers = h.numbers; now = h.now; last = h.last; matched = h.matched }

@@ -1,10 +1,11 @@
 -- What is promised of a history, from what holds after it and before each of its steps.
 use Rattle.std.proofs.Common.{◌≡◌, ℕ, zero, suc, ◌%◌, ◌<◌, true, ◌&&◌, eqb, List, [], ◌∷◌, ◌++◌, map, refl, ap, sym, ◌∙◌, subst, arith, Option, Some, None}
-use Rattle.std.specs.List.{slice_get}
+use Rattle.std.specs.List.{slice_get, Contains}
 use Rattle.std.proofs.lemmas.Bool.{eq-eqb, eqb-true, and_parts, and_from, cond_both}
 use Rattle.std.proofs.lemmas.Option.{get_or_from_slice_get, slice_get-get_or}
 use Rattle.std.specs.Int.{bit_at}
 use Rattle.std.proofs.lemmas.List.{append_assoc}
+use Rattle.std.proofs.lemmas.List.Elements.{All-contains}
 use Rattle.xp_base.specs.declared.session.Session.{Session}
 use Rattle.xp_base.specs.declared.layout.Region.TheVariants.{Area}
 use Rattle.xp_base.specs.declared.step.Op.{Op}
@@ -14,7 +15,7 @@ use Rattle.xp_base.specs.Memory.{Memory}
 use Rattle.xp_base.specs.History.{Turn, Event, Turned, Marked}
 use Rattle.xp_rules.specs.declared.rule.RingRule.TheVariants.{ReadGet, WriteEntryWord, AcceptMessage}
 use Rattle.xp_rules.specs.declared.rule.Rule.{Rule}
-use Rattle.xp_rules.specs.declared.rule.Rule.TheVariants.{Ring, Pull, Acknowledge}
+use Rattle.xp_rules.specs.declared.rule.Rule.TheVariants.{Ring, Pull, Acknowledge, TakeFlags, SetFlag}
 use Rattle.xp_rules.specs.declared.setup.Link.{Link}
 use Rattle.xp_rules.specs.declared.scenario.Scenario.{Scenario}
 use Rattle.xp_rules.specs.Records.{Recorded, opened_record}
@@ -26,7 +27,7 @@ use Rattle.xp_rules.proofs.Undo.{within}
 use Rattle.xp_rules.specs.Decode.{rule_of}
 use Rattle.xp_rules.specs.Runs.{MayStep, MayMake}
 use Rattle.xp_rules.specs.Reached.{ReachedWords, known}
-use Rattle.xp_rules.specs.Promised.{memory_by, engaged_at, IsOpenTo, Guarded, records_of, is_session, same_name, first_named, other, accepted_of, acked_of, IsPrefixOf, Prefix, until, HasRoom, IsReleased, Reuse, is_broken, Clean, SendAnswers, KeepsPromises}
+use Rattle.xp_rules.specs.Promised.{memory_by, engaged_at, IsOpenTo, Guarded, records_of, is_session, same_name, first_named, other, accepted_of, acked_of, IsPrefixOf, Prefix, until, HasRoom, IsReleased, Reuse, is_broken, Clean, AreFirstOf, AreRising, Notices, SendAnswers, KeepsPromises}
 use Rattle.xp_laws.proofs.Words.{Words}
 use Rattle.xp_laws.proofs.Parts.{Part}
 use Rattle.xp_laws.proofs.Links.{HasLink, line, mirror, mirrored, once}
@@ -156,6 +157,35 @@ module _ (s : Scenario) (law : IsLawful s) (h : List Event) (w : Words) (sound :
     partners = λ p q low. sound.partners p low q;
   }
 
+  -- what was asked and told of a record, and that its messages were acknowledged
+  pub record Heard (p : ℕ) (r : Recorded) : Type 0 where
+    pub rising : AreRising r.asked
+    pub told : AreFirstOf r.delivered r.asked
+    pub acknowledged : (k : ℕ) → Contains r.delivered k → k < acked_of (other s h p r)
+
+  heard : (p number : ℕ) (r : Recorded) → p < s.count → slice_get (records_of s h p) number ≡ Some r → Heard p r
+  heard p number r low e =
+      let i = its p number r low e in
+      let q = i.link.partner in
+      let c = i.link.channel in
+      let o = other_is p q c i.link low (line s p q c i.link law i.has).second i.has in
+      let way = sound.good.ways p q c i.link i.has in
+      let own = recorded (records_of s h p) (number_at p q c) in
+      subst (Heard p) i.record_is (record {
+        rising = way.told.rising;
+        told = ((end_of (part_of p).state q c).asked, way.told.whole);
+        acknowledged = λ k m.
+            let known : k < (end_of (part_of p).state q c).send.known = All-contains (λ (n : ℕ). n < (end_of (part_of p).state q c).send.known) own.delivered k way.told.acknowledged m in
+            omega (arith, known, ap acked_of o, way.chain);
+      })
+
+  pub notices : Notices s h
+  notices = record {
+    rising = λ p number low r e. (heard p number r low e).rising;
+    told = λ p number low r e. (heard p number r low e).told;
+    delivered = λ p number k low r e m. (heard p number r low e).acknowledged k m;
+  }
+
   pub send_answers : SendAnswers s h
   send_answers = record { logged = λ p place low x e v. (sound.log p low).matched place x e v; caused = λ p number low x e answer f. (sound.sends p low).each number x e answer f }
 
@@ -171,7 +201,7 @@ module _ (s : Scenario) (law : IsLawful s) (h : List Event) (w : Words) (sound :
         room = omega (arith, ap acked_of o, way.chain, can.1.2);
       }
 
-  pub is_released : (p q c : ℕ) → p < s.count → Can (setup_of s p) (part_of p).state (Acknowledge q c) → IsReleased s h p q c (end_of (part_of p).state q c).front
+  pub is_released : (p q c : ℕ) → p < s.count → Can (setup_of s p) (part_of p).state (Acknowledge q c) → IsReleased s h p q c (end_of (part_of p).state q c).ack.front
   is_released p q c low can =
       let k = warm_link s law p q c (part_of p) (sound.good.fixed p low) can.0.warm in
       let way = sound.good.ways q p c (mirror p k.0) (mirrored s p q c k.0 law k.1) in
@@ -179,7 +209,7 @@ module _ (s : Scenario) (law : IsLawful s) (h : List Event) (w : Words) (sound :
         own = recorded (records_of s h p) (number_at p q c);
         recorded = record_listed p q c k.0 low k.1;
         taken = omega (arith, way.chain);
-        released = sound.released p low q c;
+        released = (sound.released p low q c).below;
       }
 
 -- the step of a turn, and its rule
@@ -215,8 +245,8 @@ module _ (s : Scenario) (law : IsLawful s) (h : List Event) (m : Memory) (r : Re
       acknowledges before after p t x q c get e g d k =
           let b = here_before before after p t e in
           let z = can_of before after p t x (Acknowledge q c) e g d in
-          let both : Store (end_of (known s (until before p t) p) q c).front ≡ Store get = sym (ap (λ (o : Op). o.kind) z.0) ∙ k in
-          let same : (end_of (known s (until before p t) p) q c).front ≡ get = cc in
+          let both : Store (end_of (known s (until before p t) p) q c).ack.front ≡ Store get = sym (ap (λ (o : Op). o.kind) z.0) ∙ k in
+          let same : (end_of (known s (until before p t) p) q c).ack.front ≡ get = cc in
           subst (IsReleased s (until before p t) p q c) same (is_released s law (until before p t) b.words b.sound p q c b.low z.1)
 
   -- the engagement words are those of the opening
@@ -237,6 +267,8 @@ module _ (s : Scenario) (law : IsLawful s) (h : List Event) (m : Memory) (r : Re
   touches p st (Pull q c ReadCounters) n = refl
   touches p st (Pull q c ReadEntry) n = refl
   touches p st (Acknowledge q c) n = absurd (n refl)
+  touches p st (TakeFlags q) n = absurd (n refl)
+  touches p st (SetFlag q c) n = refl
 
   bit_of : (before : List Event) (p : ℕ) (t : Turn) (b : Before s law before p t) (rule : Rule) → Can (setup_of s p) (known s (until before p t) p) rule → (owner (setup_of s p) rule ≡ p → ⊥) → bit_at (engaged_at s before (owner (setup_of s p) rule)) p ≡ 1
   bit_of before p t b (Ring q c ReadGet) can n = link_bit before p t b q c can.0.warm
@@ -245,6 +277,8 @@ module _ (s : Scenario) (law : IsLawful s) (h : List Event) (m : Memory) (r : Re
   bit_of before p t b (Pull q c ReadCounters) can n = link_bit before p t b q c can.0.warm
   bit_of before p t b (Pull q c ReadEntry) can n = link_bit before p t b q c can.0.warm
   bit_of before p t b (Acknowledge q c) can n = absurd (n refl)
+  bit_of before p t b (TakeFlags q) can n = absurd (n refl)
+  bit_of before p t b (SetFlag q c) can n = link_bit before p t b q c can.0.warm
 
   pub guarded : Guarded s h
   guarded = record { touched = touched; engaged = engaged }
@@ -275,5 +309,6 @@ promises s law h m r =
       guarded = guarded s law h m r;
       reuse = reuse s law h m r;
       send_answers = send_answers s law h k.0 k.2;
+      notices = notices s law h k.0 k.2;
       clean = clean s law h k.0 k.2;
     }

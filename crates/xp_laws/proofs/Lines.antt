@@ -1,5 +1,5 @@
 -- All directions of all channels: one partition moves at one of its ends, and all other directions are as they were.
-use Rattle.std.proofs.Common.{◌≡◌, ℕ, zero, suc, ◌<◌, Bool, true, false, List, [], ◌∷◌, length, get_or, map, refl, ap, sym, ◌∙◌, subst, arith, Option, Some, inl, inr, ◌⊎◌}
+use Rattle.std.proofs.Common.{◌≡◌, ℕ, zero, suc, ◌<◌, Bool, true, false, List, [], ◌∷◌, length, get_or, map, refl, ap, sym, ◌∙◌, subst, arith, Option, Some, None, inl, inr, ◌⊎◌}
 use Rattle.std.specs.List.{slice_get}
 use Rattle.std.proofs.lemmas.Bool.{cases_eq, ne_eqb}
 use Rattle.std.proofs.lemmas.List.{length-map}
@@ -13,17 +13,27 @@ use Rattle.xp_rules.specs.declared.scenario.Scenario.{Scenario}
 use Rattle.xp_rules.specs.Scenario.{setup_of, links_of, IsLawful}
 use Rattle.xp_rules.specs.State.{End, start, end_of, end_at, set_end}
 use Rattle.xp_rules.specs.Records.{Recorded, opened_record, update_at}
+use Rattle.xp_rules.proofs.Slots.{at_end}
 use Rattle.xp_laws.proofs.Words.{Words}
 use Rattle.xp_laws.proofs.Parts.{Part}
 use Rattle.xp_laws.proofs.Always.{at_one, one_here}
 use Rattle.xp_laws.proofs.Links.{HasLink, line, mirror, mirrored}
 use Rattle.xp_laws.proofs.Ends.{Other, start_warm, start_end, end_other, end_here, stays_end}
-use Rattle.xp_laws.proofs.Direction.{Out, In, Kept}
+use Rattle.xp_laws.proofs.Direction.{Out, In, Kept, counters_set}
 
 -- an answer that takes a message; none is decided before it is due
 abbrev pub takes : Option LogAnswer → Bool
 takes (Some (TakeAnswered (Taken number body))) = true
 takes a = false
+
+-- an end that isn't connected has no take in progress, and no number to tell
+pub record Quiet (e : End) : Type 0 where
+  pub take : e.warm ≡ false → e.pull.take ≡ None
+  pub asked : e.warm ≡ false → e.asked ≡ []
+
+-- a connected end may have either
+pub warm_quiet : (e : End) → e.warm ≡ true → Quiet e
+warm_quiet e w = record { take = λ c. absurd (cc); asked = λ c. absurd (cc) }
 
 -- a record of a list
 abbrev pub blank_record : Recorded
@@ -51,7 +61,7 @@ update_nothing (r ∷ rs) (suc n) f h = ap (λ (xs : List Recorded). r ∷ xs) (
 
 -- what of a record never changes
 abbrev pub strip : Recorded → Recorded
-strip r = record r { accepted = []; taken = []; acked = 0 }
+strip r = record r { accepted = []; taken = []; acked = 0; asked = []; delivered = [] }
 
 pub update_names : (rs : List Recorded) (n : ℕ) (f : Recorded → Recorded) → ((r : Recorded) → strip (f r) ≡ strip r) → map strip (update_at rs n f) ≡ map strip rs
 update_names [] n f h = refl
@@ -60,16 +70,32 @@ update_names (r ∷ rs) (suc n) f h = ap (λ (xs : List Recorded). strip r ∷ x
 
 -- the views of one end of a partition: what it sends, and what it receives
 abbrev pub out_by : (Place → ℕ) → List Recorded → End → ℕ → ℕ → Out
-out_by w rs e q c = record { send = e.send; accepted = (recorded rs e.record_number).accepted; put = w (Counter q c 1); entry = λ k f. w (Entry q c k f) }
+out_by w rs e q c = record { send = e.send; due = e.asked; accepted = (recorded rs e.record_number).accepted; asked = (recorded rs e.record_number).asked; delivered = (recorded rs e.record_number).delivered; put = w (Counter q c 1); entry = λ k f. w (Entry q c k f) }
 
 abbrev pub in_by : (Place → ℕ) → List Recorded → End → ℕ → ℕ → In
-in_by w rs e q c = record { pull = e.pull; front = e.front; stored = e.stored; taken = (recorded rs e.record_number).taken; acked = (recorded rs e.record_number).acked; get = w (Counter q c 0) }
+in_by w rs e q c = record { pull = e.pull; ack = e.ack; stored = e.stored; taken = (recorded rs e.record_number).taken; acked = (recorded rs e.record_number).acked; get = w (Counter q c 0) }
 
 abbrev pub out_at : (Place → ℕ) → Part → ℕ → ℕ → Out
 out_at w k q c = out_by w k.logged.records (end_of k.state q c) q c
 
 abbrev pub in_at : (Place → ℕ) → Part → ℕ → ℕ → In
 in_at w k q c = in_by w k.logged.records (end_of k.state q c) q c
+
+-- the end but for its message requests: whether a copy of the counters is owed, and whether a request
+abbrev pub requesting : Bool → Bool → End → End
+requesting copy request e = record e { pull = record e.pull { owed = copy }; owes_message = request }
+
+pub record LikeEnd (e x : End) : Type 0 where
+  pub copy : Bool
+  pub request : Bool
+  pub is : x ≡ requesting copy request e
+
+pub like_self : (e : End) → LikeEnd e e
+like_self e = record { copy = e.pull.owed; request = e.owes_message; is = refl }
+
+pub record LikePart (k x : Part) : Type 0 where
+  pub ends : (q c : ℕ) → LikeEnd (end_of k.state q c) (end_of x.state q c)
+  pub records : x.logged.records ≡ k.logged.records
 
 module _ (s : Scenario) (law : IsLawful s) where
   -- what of a partition never changes
@@ -174,6 +200,7 @@ module _ (s : Scenario) (law : IsLawful s) where
   pub record Good (w : Words) (σ : ℕ → Part) : Type 0 where
     pub fixed : (p : ℕ) → p < s.count → Fixed p (σ p)
     pub told : (p : ℕ) → p < s.count → takes (σ p).state.script.decided ≡ false
+    pub quiet : (p : ℕ) → p < s.count → (q c : ℕ) → Quiet (end_of (σ p).state q c)
     pub ways : Ways w σ
 
   pub all_but : (P : ℕ → Part → Type 0) (σ : ℕ → Part) (a : ℕ) (k' : Part) → P a k' → ((p : ℕ) → p < s.count → P p (σ p)) → (p : ℕ) → p < s.count → P p (at_one σ a k' p)
@@ -195,10 +222,10 @@ module _ (s : Scenario) (law : IsLawful s) where
     record_before = recorded records_before end_before.record_number
 
     abbrev pub out_new : Out
-    out_new = record { send = x.send; accepted = (f record_before).accepted; put = w' a (Counter b d 1); entry = λ k g. w' a (Entry b d k g) }
+    out_new = record { send = x.send; due = x.asked; accepted = (f record_before).accepted; asked = (f record_before).asked; delivered = (f record_before).delivered; put = w' a (Counter b d 1); entry = λ k g. w' a (Entry b d k g) }
 
     abbrev pub in_new : In
-    in_new = record { pull = x.pull; front = x.front; stored = x.stored; taken = (f record_before).taken; acked = (f record_before).acked; get = w' a (Counter b d 0) }
+    in_new = record { pull = x.pull; ack = x.ack; stored = x.stored; taken = (f record_before).taken; acked = (f record_before).acked; get = w' a (Counter b d 0) }
 
     -- what is asked of a move
     pub record Moves : Type 0 where
@@ -209,6 +236,7 @@ module _ (s : Scenario) (law : IsLawful s) where
       pub names : (r : Recorded) → strip (f r) ≡ strip r
       pub safe : ((r : Recorded) → f r ≡ r) ⊎ (end_before.warm ≡ true)
       pub told : takes k'.state.script.decided ≡ false
+      pub quiet : Quiet x
       pub away : (p : ℕ) → (p ≡ a → ⊥) → (pl : Place) → w' p pl ≡ w p pl
       pub counters : (q c g : ℕ) → Other q c b d → w' a (Counter q c g) ≡ w a (Counter q c g)
       pub entries : (q c k g : ℕ) → Other q c b d → w' a (Entry q c k g) ≡ w a (Entry q c k g)
@@ -231,13 +259,13 @@ module _ (s : Scenario) (law : IsLawful s) where
           outs q c l i o =
               let e = end_kept q c o in
               (λ j. out_by (w' a) (m.records j) (e j) q c)
-              ∙ (λ j. record { send = (end_of (σ a).state q c).send; accepted = (records_kept q c l i o m.safe j).accepted; put = m.counters q c 1 o j; entry = λ k g. m.entries q c k g o j })
+              ∙ (λ j. record { send = (end_of (σ a).state q c).send; due = (end_of (σ a).state q c).asked; accepted = (records_kept q c l i o m.safe j).accepted; asked = (records_kept q c l i o m.safe j).asked; delivered = (records_kept q c l i o m.safe j).delivered; put = m.counters q c 1 o j; entry = λ k g. m.entries q c k g o j })
 
           ins : (q c : ℕ) (l : Link) → HasLink s a q c l → Other q c b d → in_at (w' a) k' q c ≡ in_at (w a) (σ a) q c
           ins q c l i o =
               let e = end_kept q c o in
               (λ j. in_by (w' a) (m.records j) (e j) q c)
-              ∙ (λ j. record { pull = (end_of (σ a).state q c).pull; front = (end_of (σ a).state q c).front; stored = (end_of (σ a).state q c).stored; taken = (records_kept q c l i o m.safe j).taken; acked = (records_kept q c l i o m.safe j).acked; get = m.counters q c 0 o j })
+              ∙ (λ j. record { pull = (end_of (σ a).state q c).pull; ack = (end_of (σ a).state q c).ack; stored = (end_of (σ a).state q c).stored; taken = (records_kept q c l i o m.safe j).taken; acked = (records_kept q c l i o m.safe j).acked; get = m.counters q c 0 o j })
 
       end_new : (l : Link) → HasLink s a b d l → end_of k'.state b d ≡ x
       end_new l i = ap (λ (es : List (List End)). end_at es b d) m.ends ∙ end_here (σ a).state.ends b d x (link_warm a b d l (σ a) (good.fixed a low) i)
@@ -248,10 +276,10 @@ module _ (s : Scenario) (law : IsLawful s) where
           ∙ update_here records_before end_before.record_number f (number_low a b d l (σ a) (good.fixed a low) i)
 
       out_is : (l : Link) → HasLink s a b d l → out_at (w' a) k' b d ≡ out_new
-      out_is l i = λ j. record { send = (end_new l i j).send; accepted = (record_new l i j).accepted; put = w' a (Counter b d 1); entry = λ k g. w' a (Entry b d k g) }
+      out_is l i = λ j. record { send = (end_new l i j).send; due = (end_new l i j).asked; accepted = (record_new l i j).accepted; asked = (record_new l i j).asked; delivered = (record_new l i j).delivered; put = w' a (Counter b d 1); entry = λ k g. w' a (Entry b d k g) }
 
       in_is : (l : Link) → HasLink s a b d l → in_at (w' a) k' b d ≡ in_new
-      in_is l i = λ j. record { pull = (end_new l i j).pull; front = (end_new l i j).front; stored = (end_new l i j).stored; taken = (record_new l i j).taken; acked = (record_new l i j).acked; get = w' a (Counter b d 0) }
+      in_is l i = λ j. record { pull = (end_new l i j).pull; ack = (end_new l i j).ack; stored = (end_new l i j).stored; taken = (record_new l i j).taken; acked = (record_new l i j).acked; get = w' a (Counter b d 0) }
 
       fixed_new : Fixed a k'
       fixed_new = record {
@@ -260,10 +288,14 @@ module _ (s : Scenario) (law : IsLawful s) where
         names = ap (map strip) m.records ∙ update_names records_before end_before.record_number f m.names ∙ (good.fixed a low).names;
       }
 
+      quiet_new : (q c : ℕ) → Quiet (end_of k'.state q c)
+      quiet_new q c = subst (λ (es : List (List End)). Quiet (end_at es q c)) (sym m.ends) (at_end Quiet (σ a).state.ends b d x q c (λ e g. m.quiet) (good.quiet a low q c))
+
       pub good_after : Good w' (at_one σ a k')
       good_after = record {
         fixed = all_but (λ p k. Fixed p k) σ a k' fixed_new good.fixed;
         told = all_but (λ p k. takes k.state.script.decided ≡ false) σ a k' m.told good.told;
+        quiet = all_but (λ p k. (q c : ℕ) → Quiet (end_of k.state q c)) σ a k' quiet_new good.quiet;
         ways = moved w w' σ a b d k' good.ways m.away frame (λ l i. (subst (λ (o : Out). Kept o (in_at (w b) (σ b) a d)) (sym (out_is l i)) (m.here l i).0, subst (λ (y : In). Kept (out_at (w b) (σ b) a d) y) (sym (in_is l i)) (m.here l i).1));
       }
 
@@ -279,5 +311,45 @@ module _ (s : Scenario) (law : IsLawful s) where
           names = ap (map strip) r ∙ (good.fixed a low).names;
         }) good.fixed;
         told = all_but (λ p k. takes k.state.script.decided ≡ false) σ a k' t good.told;
+        quiet = all_but (λ p k. (q c : ℕ) → Quiet (end_of k.state q c)) σ a k' (λ q c. subst (λ (es : List (List End)). Quiet (end_at es q c)) (sym e) (good.quiet a low q c)) good.quiet;
         ways = moved w w σ a 0 0 k' good.ways (λ p n pl. refl) (record { outs = λ q c l h x. o q c; ins = λ q c l h x. i q c }) (λ l h. (subst (λ (y : Out). Kept y (in_at (w 0) (σ 0) a 0)) (sym (o 0 0)) (good.ways a 0 0 l h), subst (λ (y : In). Kept (out_at (w 0) (σ 0) a 0) y) (sym (i 0 0)) (good.ways 0 a 0 (mirror a l) (mirrored s a 0 0 l law h))));
       }
+
+  -- a move that changes no counter and no entry, and nothing of the ends but message requests
+  module _ (w w' : Words) (σ : ℕ → Part) (a : ℕ) (k' : Part) (good : Good w σ) (low : a < s.count)
+      (counters : (p q c g : ℕ) → w' p (Counter q c g) ≡ w p (Counter q c g)) (entries : (p q c k g : ℕ) → w' p (Entry q c k g) ≡ w p (Entry q c k g))
+      (like : LikePart (σ a) k') (told : takes k'.state.script.decided ≡ false) where
+    like_all : (p : ℕ) → p < s.count → LikePart (σ p) (at_one σ a k' p)
+    like_all = all_but (λ p k. LikePart (σ p) k) σ a k' like (λ p l. record { ends = λ q c. like_self (end_of (σ p).state q c); records = refl })
+
+    out_like : (p q c : ℕ) (x : Part) → LikePart (σ p) x → out_at (w' p) x q c ≡ out_at (w p) (σ p) q c
+    out_like p q c x h =
+        (λ j. out_by (w' p) (h.records j) ((h.ends q c).is j) q c)
+        ∙ (λ j. record (out_at (w p) (σ p) q c) { put = counters p q c 1 j; entry = λ k g. entries p q c k g j })
+
+    in_like : (p q c : ℕ) (x : Part) → (h : LikePart (σ p) x) → in_at (w' p) x q c ≡ record (in_at (w p) (σ p) q c) { pull = record (end_of (σ p).state q c).pull { owed = (h.ends q c).copy } }
+    in_like p q c x h =
+        (λ j. in_by (w' p) (h.records j) ((h.ends q c).is j) q c)
+        ∙ (λ j. record (in_at (w p) (σ p) q c) { pull = record (end_of (σ p).state q c).pull { owed = (h.ends q c).copy }; get = counters p q c 0 j })
+
+    ways_like : Ways w' (at_one σ a k')
+    ways_like p q c l i =
+        let o = out_at (w p) (σ p) q c in
+        let y = in_at (w q) (σ q) p c in
+        let on = line s p q c l law i in
+        let theirs = like_all q on.second in
+        let new = counters_set o y y.pull.counters y.pull.known (theirs.ends p c).copy (good.ways p q c l i) in
+        let K : Out → In → Type 0 = λ e f. Kept e f in
+        subst (λ e. K e (in_at (w' q) (at_one σ a k' q) p c)) (sym (out_like p q c (at_one σ a k' p) (like_all p on.first))) (subst (K o) (sym (in_like q p c (at_one σ a k' q) theirs)) new)
+
+    pub good_like : Good w' (at_one σ a k')
+    good_like = record {
+      fixed = all_but (λ p k. Fixed p k) σ a k' (record {
+        warm = λ q c. ap (λ (e : End). e.warm) (like.ends q c).is ∙ (good.fixed a low).warm q c;
+        number = λ q c. ap (λ (e : End). e.record_number) (like.ends q c).is ∙ (good.fixed a low).number q c;
+        names = ap (map strip) like.records ∙ (good.fixed a low).names;
+      }) good.fixed;
+      told = all_but (λ p k. takes k.state.script.decided ≡ false) σ a k' told good.told;
+      quiet = all_but (λ p k. (q c : ℕ) → Quiet (end_of k.state q c)) σ a k' (λ q c. let old = good.quiet a low q c in subst Quiet (sym (like.ends q c).is) (record { take = old.take; asked = old.asked })) good.quiet;
+      ways = ways_like;
+    }

@@ -1,7 +1,7 @@
 -- The links of the partitions: one for each partner and channel at most, and each has its mirror at the partner.
-use Rattle.std.proofs.Common.{◌≡◌, ℕ, zero, suc, ◌+◌, ◌-◌, ◌*◌, ◌<◌, ◌≤◌, Bool, true, false, ◌&&◌, ◌||◌, cond, eqb, List, [], ◌∷◌, ◌++◌, length, refl, ap, sym, ◌∙◌, subst, arith, Some, inl, inr, ◌⊎◌}
+use Rattle.std.proofs.Common.{◌≡◌, ℕ, zero, suc, ◌+◌, ◌-◌, ◌*◌, ◌<◌, ◌≤◌, Bool, true, false, ◌&&◌, ◌||◌, cond, eqb, List, [], ◌∷◌, ◌++◌, length, refl, ap, sym, ◌∙◌, subst, arith, Some, inl, inr, ◌⊎◌, length-append}
 use Rattle.std.specs.List.{slice_get}
-use Rattle.std.proofs.lemmas.Bool.{cases_eq, eqb-true, and_parts}
+use Rattle.std.proofs.lemmas.Bool.{cases_eq, eqb-true, and_parts, cond_both}
 use Rattle.xp_rules.specs.declared.setup.Link.{Link}
 use Rattle.xp_rules.specs.declared.scenario.Warm.{Warm}
 use Rattle.xp_rules.specs.declared.scenario.Scenario.{Scenario}
@@ -222,6 +222,23 @@ mirrored s p q c l h k =
     let i = line_in s.count p q c s.warms l h.warms e in
     let r = listed s q p c (mirror p l) (mirror_in p q c s.warms l e) i.first i.channel in
     record { number = r.0; listed = r.1; partner = refl; channel = k.channel }
+
+-- there are at most four links to a partner
+link_few : (p q c : ℕ) (ws : List Warm) → length (link_in p q c ws) ≤ 1
+link_few p q c [] = omega arith
+link_few p q c (w ∷ ws) = cond_both (joins p q c w) (seen_as q c w ∷ []) (link_in p q c ws) (λ (ls : List Link). length ls ≤ 1) (λ d. omega arith) (λ d. link_few p q c ws)
+
+few_to : (p q c n : ℕ) (ws : List Warm) → length (links_to p q c n ws) ≤ n
+few_to p q c zero ws = omega arith
+few_to p q c (suc n) ws = omega (arith, length-append (link_in p q c ws) (links_to p q (c + 1) n ws), link_few p q c ws, few_to p q (c + 1) n ws)
+
+few_from : (p q n : ℕ) (ws : List Warm) → length (links_from p q n ws) ≤ 4 * n
+unfolding links_from
+few_from p q zero ws = omega arith
+few_from p q (suc n) ws = omega (arith, length-append (links_to p q 0 4 ws) (links_from p (q + 1) n ws), few_to p q 0 4 ws, few_from p (q + 1) n ws)
+
+pub few_links : (s : Scenario) (p : ℕ) → IsLawful s → length (links_of s p) ≤ 32
+few_links s p h = omega (arith, few_from p 0 s.count s.warms, h.high)
 
 -- the setups of a lawful scenario
 pub lawful_links : (s : Scenario) (p : ℕ) (ls : List Link) → ((i : ℕ) (l : Link) → slice_get ls i ≡ Some l → IsLawfulLink (setup_of s p) l) → AreLawfulLinks (setup_of s p) ls

@@ -1,4 +1,4 @@
--- The words of the opening by place: counters are 0, and an engagement bit stands for each partner that has a link.
+-- The words of the opening by place: counters and flags are 0, and an engagement bit stands for each partner that has a link.
 use Rattle.std.proofs.Common.{◌≡◌, ℕ, zero, suc, ◌+◌, ◌^◌, ◌<◌, ◌≤◌, Bool, true, false, ◌&&◌, cond, eqb, List, [], ◌∷◌, ◌++◌, length, get_or, replicate, refl, ap, sym, ◌∙◌, subst, arith, Some, inl, inr}
 use Rattle.std.specs.List.{slice_get}
 use Rattle.std.specs.Int.{bit_at}
@@ -7,7 +7,7 @@ use Rattle.std.proofs.lemmas.List.{get_or-replicate, length-replicate}
 use Rattle.std.proofs.lemmas.Nat.Bits.{bit_at_or, bit_at-pow_same, bit_at-lt}
 use Rattle.xp_base.specs.Memory.{Memory, put_at}
 use Rattle.xp_base.specs.Rows.{blank}
-use Rattle.xp_base.specs.Places.{Place, Open, Counter, IsWithin, index_of}
+use Rattle.xp_base.specs.Places.{Place, Open, Flag, Counter, IsWithin, index_of}
 use Rattle.xp_rules.specs.declared.setup.Link.{Link}
 use Rattle.xp_rules.specs.declared.scenario.Scenario.{Scenario}
 use Rattle.xp_rules.specs.Scenario.{links_of, IsLawful, page_words, partner_mask, booted_words, link_words, all_link_words, put_words, open_part, opened_from, opening}
@@ -108,35 +108,50 @@ opening_words s = opened_words s 0 s.count (λ p pl. 0)
 pub agrees_opening : (s : Scenario) → IsLawful s → Agrees s.count (opening s) (opening_words s)
 agrees_opening s law = agrees_from s law 0 s.count (blank 5912 s.count) (λ p pl. 0) (omega arith) (agrees_blank s.count)
 
--- counters are 0
-links_miss_counter : (ls : List Link) (q c f : ℕ) → Misses (Counter q c f) (all_link_words ls)
-links_miss_counter [] q c f = tt
-links_miss_counter (l ∷ ls) q c f = misses_append (Counter q c f) (link_words l) (all_link_words ls) (refl, (refl, (refl, (refl, (refl, (refl, (refl, (refl, (refl, tt))))))))) (links_miss_counter ls q c f)
+-- a place that no list of words names
+record Unnamed (x : Place) : Type 0 where
+  page : (n p : ℕ) → Misses x (page_words n p)
+  booted : (l : Link) (ls : List Link) → Misses x (booted_words (l ∷ ls))
+  link : (l : Link) → Misses x (link_words l)
 
-booted_miss_counter : (ls : List Link) (q c f : ℕ) → Misses (Counter q c f) (booted_words ls)
-booted_miss_counter [] q c f = tt
-booted_miss_counter (l ∷ ls) q c f = (refl, (refl, (refl, (refl, tt))))
+links_miss : (x : Place) → ((l : Link) → Misses x (link_words l)) → (ls : List Link) → Misses x (all_link_words ls)
+links_miss x h [] = tt
+links_miss x h (l ∷ ls) = misses_append x (link_words l) (all_link_words ls) (h l) (links_miss x h ls)
 
-counter_part : (s : Scenario) (p : ℕ) (w : Words) (o q c f : ℕ) → open_words s p w o (Counter q c f) ≡ w o (Counter q c f)
-counter_part s p w o q c f =
+booted_miss : (x : Place) → Unnamed x → (ls : List Link) → Misses x (booted_words ls)
+booted_miss x h [] = tt
+booted_miss x h (l ∷ ls) = h.booted l ls
+
+unnamed_part : (s : Scenario) (p : ℕ) (w : Words) (o : ℕ) (x : Place) → Unnamed x → open_words s p w o x ≡ w o x
+unnamed_part s p w o x h =
     let ls = links_of s p in
-    let x = Counter q c f in
-    missed (write_words (write_words w p (page_words s.count p)) p (booted_words ls)) p (all_link_words ls) o x (links_miss_counter ls q c f)
-    ∙ missed (write_words w p (page_words s.count p)) p (booted_words ls) o x (booted_miss_counter ls q c f)
-    ∙ missed w p (page_words s.count p) o x (refl, (refl, (refl, (refl, (refl, (refl, tt))))))
+    missed (write_words (write_words w p (page_words s.count p)) p (booted_words ls)) p (all_link_words ls) o x (links_miss x h.link ls)
+    ∙ missed (write_words w p (page_words s.count p)) p (booted_words ls) o x (booted_miss x h ls)
+    ∙ missed w p (page_words s.count p) o x (h.page s.count p)
 
-counter_from : (s : Scenario) (p n : ℕ) (w : Words) (o q c f : ℕ) → opened_words s p n w o (Counter q c f) ≡ w o (Counter q c f)
+unnamed_from : (s : Scenario) (p n : ℕ) (w : Words) (o : ℕ) (x : Place) → Unnamed x → opened_words s p n w o x ≡ w o x
 unfolding opened_words
-counter_from s p zero w o q c f = refl
-counter_from s p (suc n) w o q c f = counter_from s (p + 1) n (open_words s p w) o q c f ∙ counter_part s p w o q c f
+unnamed_from s p zero w o x h = refl
+unnamed_from s p (suc n) w o x h = unnamed_from s (p + 1) n (open_words s p w) o x h ∙ unnamed_part s p w o x h
 
+-- counters and flags are 0
 pub counter_zero : (s : Scenario) (o q c f : ℕ) → opening_words s o (Counter q c f) ≡ 0
-counter_zero s o q c f = counter_from s 0 s.count (λ p pl. 0) o q c f
+counter_zero s o q c f = unnamed_from s 0 s.count (λ p pl. 0) o (Counter q c f) (record {
+  page = λ n p. (refl, (refl, (refl, (refl, (refl, (refl, tt))))));
+  booted = λ l ls. (refl, (refl, (refl, (refl, tt))));
+  link = λ l. (refl, (refl, (refl, (refl, (refl, (refl, (refl, (refl, (refl, tt)))))))));
+})
+
+pub flag_zero : (s : Scenario) (o q : ℕ) → opening_words s o (Flag q) ≡ 0
+flag_zero s o q = unnamed_from s 0 s.count (λ p pl. 0) o (Flag q) (record {
+  page = λ n p. (refl, (refl, (refl, (refl, (refl, (refl, tt))))));
+  booted = λ l ls. (refl, (refl, (refl, (refl, tt))));
+  link = λ l. (refl, (refl, (refl, (refl, (refl, (refl, (refl, (refl, (refl, tt)))))))));
+})
 
 -- engagement bits
 links_miss_open : (ls : List Link) (x : ℕ) → Misses (Open x) (all_link_words ls)
-links_miss_open [] x = tt
-links_miss_open (l ∷ ls) x = misses_append (Open x) (link_words l) (all_link_words ls) (refl, (refl, (refl, (refl, (refl, (refl, (refl, (refl, (refl, tt))))))))) (links_miss_open ls x)
+links_miss_open ls x = links_miss (Open x) (λ l. (refl, (refl, (refl, (refl, (refl, (refl, (refl, (refl, (refl, tt)))))))))) ls
 
 engaged_here : (w : Words) (p : ℕ) (ls : List Link) (l : Link) (i : ℕ) → slice_get ls i ≡ Some l → write_words w p (booted_words ls) p (Open 12) ≡ partner_mask ls
 engaged_here w p [] l i e = absurd (cc)

@@ -1,16 +1,16 @@
 -- What holds after every history that is reached, and right before each of its steps.
-use Rattle.std.proofs.Common.{◌≡◌, ℕ, zero, suc, ◌<◌, ◌≤◌, Bool, true, false, cond, eqb, List, [], ◌∷◌, ◌++◌, length, get_or, map, refl, ap, sym, ◌∙◌, subst, arith, Option, None}
-use Rattle.std.proofs.lemmas.Bool.{eq-eqb, eqb-true}
+use Rattle.std.proofs.Common.{◌≡◌, ℕ, zero, suc, ◌<◌, ◌≤◌, ◌&&◌, Bool, true, false, cond, eqb, List, [], ◌∷◌, ◌++◌, length, get_or, map, refl, ap, sym, ◌∙◌, subst, arith, Option, None, bit_or}
+use Rattle.std.proofs.lemmas.Bool.{eq-eqb, eqb-true, cond_both}
 use Rattle.xp_base.specs.declared.step.Answer.TheVariants.{Word, Failed}
 use Rattle.xp_base.specs.declared.step.OpKind.TheVariants.{Load}
 use Rattle.xp_base.specs.Memory.{Memory}
 use Rattle.xp_base.specs.History.{Act, Turn, Event, Poked, Turned, Legal, happens, turns_of}
-use Rattle.xp_base.specs.Places.{Open}
+use Rattle.xp_base.specs.Places.{Open, Flag}
 use Rattle.xp_base.proofs.HistoryLemmas.{turns_of-append}
 use Rattle.xp_rules.specs.declared.commands.Command.{Command}
 use Rattle.xp_rules.specs.declared.rule.RingRule.TheVariants.{ReadGet, WriteEntryWord, AcceptMessage}
 use Rattle.xp_rules.specs.declared.rule.Rule.{Rule}
-use Rattle.xp_rules.specs.declared.rule.Rule.TheVariants.{Ring, Pull, Acknowledge}
+use Rattle.xp_rules.specs.declared.rule.Rule.TheVariants.{Ring, Pull, Acknowledge, TakeFlags, SetFlag}
 use Rattle.xp_rules.specs.declared.setup.Link.{Link}
 use Rattle.xp_rules.specs.declared.setup.Setup.{Setup}
 use Rattle.xp_rules.specs.declared.scenario.Scenario.{Scenario}
@@ -21,9 +21,11 @@ use Rattle.xp_rules.specs.Sending.{Send as Sendable}
 use Rattle.xp_laws.proofs.Sends.{Sends, sends_act, sends_rule, sends_failed}
 use Rattle.xp_laws.proofs.Entries.{Log, log_act, log_rule}
 use Rattle.xp_rules.specs.Pulling.{new_pulling}
+use Rattle.xp_rules.specs.Releasing.{new_releasing}
 use Rattle.xp_rules.specs.State.{State, End, start, end_of}
 use Rattle.xp_rules.specs.Records.{Recorded, opened_record}
 use Rattle.xp_rules.specs.Rules.{Can, kind}
+use Rattle.xp_rules.specs.Flags.{message_flag}
 use Rattle.xp_rules.specs.Acts.{MayAct, must_answer}
 use Rattle.xp_rules.specs.Runs.{MayMake, RunsFrom, after_turn, state_after}
 use Rattle.xp_rules.specs.Scenario.{setup_of, links_of, opening, IsLawful, command_count}
@@ -32,13 +34,16 @@ use Rattle.xp_rules.specs.Promised.{memory_by, until}
 use Rattle.xp_laws.proofs.Words.{Words, Agrees}
 use Rattle.xp_laws.proofs.Parts.{Part, part_start, part_act, part_acts, part_turn, part_from, part_ruled}
 use Rattle.xp_laws.proofs.Always.{IsPart, at_one, one_kept, one_here, does_rule, told, may_by, acts_at, always}
-use Rattle.xp_laws.proofs.Links.{HasLink, line, mirror, mirrored, lawful_links}
+use Rattle.xp_laws.proofs.Flags.{HasRequests, Requested, no_requests, request_alone, either_requested}
+use Rattle.xp_laws.proofs.Links.{HasLink, line, mirror, mirrored, few_links, lawful_links}
 use Rattle.xp_laws.proofs.Ends.{start_end, start_fact}
+use Rattle.xp_laws.proofs.Notices.{told_none}
 use Rattle.xp_laws.proofs.Direction.{Out, In, Kept, sized_none, none_written}
-use Rattle.xp_laws.proofs.Lines.{Good, recorded, strip, out_at, in_at, all_but}
+use Rattle.xp_laws.proofs.Lines.{Quiet, Good, recorded, strip, out_at, in_at, all_but}
 use Rattle.xp_laws.proofs.Moves.{keeps_act, keeps_rule, keeps_failed}
-use Rattle.xp_laws.proofs.Opening.{opening_words, agrees_opening, counter_zero}
+use Rattle.xp_laws.proofs.Opening.{opening_words, agrees_opening, counter_zero, flag_zero}
 use Rattle.xp_laws.proofs.Clean.{Partners, partners_start, partners_act, partners_rule, partners_failed, no_fault, get_told_good, Unblamed, unblamed_act, unblamed_rule, unblamed_failed}
+use Rattle.xp_laws.proofs.Freed.{Freed}
 use Rattle.xp_laws.proofs.Released.{Released, released_act, released_rule}
 
 -- the setups of a lawful scenario
@@ -52,15 +57,16 @@ lawful_setup s p law l = record {
   count = law.high;
   part = l;
   links = lawful_links s p (links_of s p) (λ i k e. let f = line s p k.partner k.channel k law (record { number = i; listed = e; partner = refl; channel = refl }) in ((f.second, (λ d. f.apart (sym d)), f.channel), f.size));
+  few = few_links s p law;
   commands = law.commands p l;
   length = omega (arith, script_short s.scripts p, law.few);
-  order = law.order p l;
 }
 
 -- all that is known
 pub record Sound (s : Scenario) (law : IsLawful s) (w : Words) (σ : ℕ → Part) : Type 0 where
   pub good : Good s law w σ
   pub engaged : (q : ℕ) → w q (Open 12) ≡ opening_words s q (Open 12)
+  pub requested : Requested w
   pub partners : (p : ℕ) → p < s.count → Partners (σ p)
   pub unblamed : (p : ℕ) → p < s.count → Unblamed (σ p)
   pub released : (p : ℕ) → p < s.count → Released (σ p)
@@ -73,12 +79,27 @@ engaged_rule su st (Ring q c (WriteEntryWord f)) w o = refl
 engaged_rule su st (Ring q c AcceptMessage) w o = refl
 engaged_rule su st (Pull q c m) w o = refl
 engaged_rule su st (Acknowledge q c) w o = refl
+engaged_rule su st (TakeFlags q) w o = refl
+engaged_rule su st (SetFlag q c) w o = refl
+
+-- each step leaves message requests alone in the flag words
+requested_rule : (su : Setup) (st : State) (r : Rule) (w : Words) → Can su st r → Requested w → Requested (does_rule su st r w)
+requested_rule su st (Ring q c ReadGet) w can h p k = h p k
+requested_rule su st (Ring q c (WriteEntryWord f)) w can h p k = h p k
+requested_rule su st (Ring q c AcceptMessage) w can h p k = h p k
+requested_rule su st (Pull q c m) w can h p k = h p k
+requested_rule su st (Acknowledge q c) w can h p k = h p k
+requested_rule su st (TakeFlags q) w can h p k = cond_both (eqb q k && eqb su.part p) 0 (w p (Flag k)) HasRequests (λ d. no_requests) (λ d. h p k)
+requested_rule su st (SetFlag q c) w can h p k =
+    let old = w q (Flag su.part) in
+    cond_both (eqb su.part k && eqb q p) (bit_or old (message_flag c)) (w p (Flag k)) HasRequests (λ d. either_requested old (message_flag c) (h q su.part) (request_alone c can.0.peer.2)) (λ d. h p k)
 
 module _ (s : Scenario) (law : IsLawful s) where
   sound_act : (w : Words) (σ : ℕ → Part) (a : ℕ) (x : Act) → a < s.count → Sound s law w σ → MayAct (setup_of s a) (σ a).state x → Sound s law w (at_one σ a (part_act (setup_of s a) (σ a) x))
   sound_act w σ a x low h may = record {
     good = keeps_act s law w σ a x low h.good may;
     engaged = h.engaged;
+    requested = h.requested;
     partners = all_but s law (λ p k. Partners k) σ a (part_act (setup_of s a) (σ a) x) (partners_act (setup_of s a) (σ a) x (h.partners a low)) h.partners;
     unblamed = all_but s law (λ p k. Unblamed k) σ a (part_act (setup_of s a) (σ a) x) (unblamed_act (setup_of s a) (σ a) x (h.unblamed a low)) h.unblamed;
     released = all_but s law (λ p k. Released k) σ a (part_act (setup_of s a) (σ a) x) (released_act (setup_of s a) (σ a) x (h.released a low)) h.released;
@@ -93,7 +114,8 @@ module _ (s : Scenario) (law : IsLawful s) where
       record {
         good = keeps_rule s law w σ a r low h.good can;
         engaged = λ q. engaged_rule (setup_of s a) (σ a).state r w q ∙ h.engaged q;
-        partners = all_but s law (λ p k. Partners k) σ a new (partners_rule (σ a) r v (no_fault s law w σ a low h.good r can) (h.partners a low)) h.partners;
+        requested = requested_rule (setup_of s a) (σ a).state r w can h.requested;
+        partners = all_but s law (λ p k. Partners k) σ a new (partners_rule (σ a) r v (no_fault s law w σ a low h.good h.requested r can) (h.partners a low)) h.partners;
         unblamed = all_but s law (λ p k. Unblamed k) σ a new (unblamed_rule (σ a) r v (h.unblamed a low)) h.unblamed;
         released = all_but s law (λ p k. Released k) σ a new (released_rule (σ a) r (Word v) (h.released a low)) h.released;
         sends = all_but s law (λ p k. Sends (setup_of s p) k) σ a new (sends_rule (setup_of s a) (σ a) r v calm can (λ q c e. subst (λ (x : Rule). is_bad_get (end_of (σ a).state q c).send (told (setup_of s a) (σ a).state x w) ≡ false) (sym e) (get_told_good s law w σ a low h.good q c (subst (λ (x : Rule). Can (setup_of s a) (σ a).state x) e can))) (h.sends a low)) h.sends;
@@ -106,6 +128,7 @@ module _ (s : Scenario) (law : IsLawful s) where
       record {
         good = keeps_failed s law w σ a r low h.good can load;
         engaged = h.engaged;
+        requested = h.requested;
         partners = all_but s law (λ p k. Partners k) σ a new (partners_failed (σ a) r (h.partners a low)) h.partners;
         unblamed = all_but s law (λ p k. Unblamed k) σ a new (unblamed_failed (σ a) r (h.unblamed a low)) h.unblamed;
         released = all_but s law (λ p k. Released k) σ a new (released_rule (σ a) r Failed (h.released a low)) h.released;
@@ -126,6 +149,16 @@ module _ (s : Scenario) (law : IsLawful s) where
   no_accepted (l ∷ ls) zero = refl
   no_accepted (l ∷ ls) (suc n) = no_accepted ls n
 
+  no_asked : (ls : List Link) (n : ℕ) → (recorded (map opened_record ls) n).asked ≡ []
+  no_asked [] n = refl
+  no_asked (l ∷ ls) zero = refl
+  no_asked (l ∷ ls) (suc n) = no_asked ls n
+
+  no_delivered : (ls : List Link) (n : ℕ) → (recorded (map opened_record ls) n).delivered ≡ []
+  no_delivered [] n = refl
+  no_delivered (l ∷ ls) zero = refl
+  no_delivered (l ∷ ls) (suc n) = no_delivered ls n
+
   no_taken : (ls : List Link) (n : ℕ) → (recorded (map opened_record ls) n).taken ≡ []
   no_taken [] n = refl
   no_taken (l ∷ ls) zero = refl
@@ -137,18 +170,19 @@ module _ (s : Scenario) (law : IsLawful s) where
   no_acked (l ∷ ls) (suc n) = no_acked ls n
 
   abbrev first_out : ℕ → ℕ → ℕ → Link → (ℕ → ℕ → ℕ) → Out
-  first_out p q c l entry = record { send = new_sending p q c l.entries l.limit; accepted = []; put = 0; entry = entry }
+  first_out p q c l entry = record { send = new_sending p q c l.entries l.limit; due = []; accepted = []; asked = []; delivered = []; put = 0; entry = entry }
 
-  abbrev first_in : Link → In
-  first_in l = record { pull = new_pulling l.entries l.limit; front = 0; stored = 0; taken = []; acked = 0; get = 0 }
+  abbrev first_in : ℕ → ℕ → ℕ → Link → In
+  first_in q p c l = record { pull = new_pulling q p c l.entries l.limit; ack = new_releasing; stored = 0; taken = []; acked = 0; get = 0 }
 
-  first_kept : (p q c : ℕ) (l : Link) (entry : ℕ → ℕ → ℕ) → IsSize l.entries l.limit → Kept (first_out p q c l entry) (first_in l)
-  first_kept p q c l entry z = record {
+  first_kept : (p q c own : ℕ) (l : Link) (entry : ℕ → ℕ → ℕ) → IsSize l.entries l.limit → Kept (first_out p q c l entry) (first_in own p c l)
+  first_kept p q c own l entry z = record {
     chain = omega (arith, z.0, z.1, z.2);
     held = record { at = λ k f le lt i. absurd (omega (arith, lt)) };
     written = none_written l.entries 0 0 [] entry;
     bodies = record { payload = sized_none l.limit; accepted = λ k. sized_none l.limit; same = λ k lt. absurd (omega (arith, lt)) };
     copied = record { at = λ f lt. absurd (omega (arith, lt)); within = omega arith; below = λ lt. absurd (omega (arith, lt)) };
+    told = told_none 0 0;
   }
 
   abbrev first_parts : ℕ → Part
@@ -159,28 +193,30 @@ module _ (s : Scenario) (law : IsLawful s) where
       let k = mirrored s p q c l law i in
       let e = start_end s p q c l law i in
       let f = start_end s q p c (mirror p l) law k in
-      let o : first_out p l.partner l.channel l (out_at (opening_words s p) (first_parts p) q c).entry ≡ out_at (opening_words s p) (first_parts p) q c = λ j. record { send = (sym e j).send; accepted = sym (no_accepted (links_of s p) (end_of (start (setup_of s p)) q c).record_number) j; put = sym (counter_zero s p q c 1) j; entry = (out_at (opening_words s p) (first_parts p) q c).entry } in
-      let y : first_in l ≡ in_at (opening_words s q) (first_parts q) p c = λ j. record { pull = (sym f j).pull; front = (sym f j).front; stored = (sym f j).stored; taken = sym (no_taken (links_of s q) (end_of (start (setup_of s q)) p c).record_number) j; acked = sym (no_acked (links_of s q) (end_of (start (setup_of s q)) p c).record_number) j; get = sym (counter_zero s q p c 0) j } in
+      let o : first_out p l.partner l.channel l (out_at (opening_words s p) (first_parts p) q c).entry ≡ out_at (opening_words s p) (first_parts p) q c = λ j. record { send = (sym e j).send; due = (sym e j).asked; accepted = sym (no_accepted (links_of s p) (end_of (start (setup_of s p)) q c).record_number) j; asked = sym (no_asked (links_of s p) (end_of (start (setup_of s p)) q c).record_number) j; delivered = sym (no_delivered (links_of s p) (end_of (start (setup_of s p)) q c).record_number) j; put = sym (counter_zero s p q c 1) j; entry = (out_at (opening_words s p) (first_parts p) q c).entry } in
+      let y : first_in q p l.channel l ≡ in_at (opening_words s q) (first_parts q) p c = λ j. record { pull = (sym f j).pull; ack = (sym f j).ack; stored = (sym f j).stored; taken = sym (no_taken (links_of s q) (end_of (start (setup_of s q)) p c).record_number) j; acked = sym (no_acked (links_of s q) (end_of (start (setup_of s q)) p c).record_number) j; get = sym (counter_zero s q p c 0) j } in
       let P : Out → In → Type 0 = λ a b. Kept a b in
-      subst (P (out_at (opening_words s p) (first_parts p) q c)) y (subst (λ a. P a (first_in l)) o (first_kept p l.partner l.channel l (out_at (opening_words s p) (first_parts p) q c).entry (line s p q c l law i).size))
+      subst (P (out_at (opening_words s p) (first_parts p) q c)) y (subst (λ a. P a (first_in q p l.channel l)) o (first_kept p l.partner l.channel q l (out_at (opening_words s p) (first_parts p) q c).entry (line s p q c l law i).size))
 
   first_sound : Sound s law (opening_words s) first_parts
   first_sound = record {
     good = record {
       fixed = λ p l. record { warm = λ q c. refl; number = λ q c. refl; names = strip_opened (links_of s p) };
       told = λ p l. refl;
+      quiet = λ p l q c. start_fact s p q c Quiet (record { take = λ d. refl; asked = λ d. refl }) (λ n k. record { take = λ d. refl; asked = λ d. refl });
       ways = first_ways;
     };
     engaged = λ q. refl;
+    requested = λ p q. subst HasRequests (sym (flag_zero s p q)) no_requests;
     partners = λ p l q. partners_start (setup_of s p) q;
     unblamed = λ p l. record { entries = λ i x e. absurd (cc); decided = refl };
-    released = λ p l q c n k. absurd (omega (arith, k, start_fact s p q c (λ (e : End). e.front ≡ 0) refl (λ j x. refl)));
+    released = λ p l q c. start_fact s p q c (λ (e : End). Freed [] e.ack) (record { below = λ n k. absurd (omega (arith, k)); above = λ i e. absurd (cc) }) (λ j x. record { below = λ n k. absurd (omega (arith, k)); above = λ i e. absurd (cc) });
     sends = λ p l. record {
       busy = record {
         sending = λ q c i. let never : false ≡ true = subst (λ (o : Option Sendable). IsSome o) (start_fact s p q c (λ (e : End). e.send.send ≡ None) refl (λ j x. refl)) i in absurd (cc);
-        owing = λ q c i. absurd (omega (arith, i, start_fact s p q c (λ (e : End). e.front ≡ 0) refl (λ j x. refl)));
+        owing = λ q c i. absurd (omega (arith, i, start_fact s p q c (λ (e : End). e.ack.front ≡ 0) refl (λ j x. refl)));
       };
-      head = λ d q c payload wait e. absurd (cc);
+      head = λ d q c payload wait notify e. absurd (cc);
       each = λ n x e. absurd (cc);
     };
     log = λ p l. record { count = refl; numbers = λ n x e. absurd (cc); now = λ d. absurd (cc); last = λ d x y e f. absurd (cc); matched = λ n x e v. absurd (cc) };

@@ -2,34 +2,36 @@
 use Rattle.std.proofs.Common.{◌≡◌, ℕ, zero, suc, ◌+◌, ◌-◌, ◌^◌, ◌<◌, Bool, true, false, not, ◌&&◌, cond, eqb, ltb, List, [], ◌∷◌, ◌++◌, length, refl, ap, sym, ◌∙◌, subst, arith, Option, Some, None, inl, inr, ◌⊎◌, bit_or}
 use Rattle.std.specs.Prelude.{IsSome}
 use Rattle.std.specs.List.{slice_get}
-use Rattle.std.proofs.lemmas.Bool.{cases_eq, eq-eqb, eqb-true, and_parts, and_from, cond_both}
+use Rattle.std.proofs.lemmas.Bool.{cases_eq, eq-eqb, ne_eqb, eqb-true, and_parts, and_from, cond_both}
 use Rattle.xp_base.specs.declared.step.OpKind.TheVariants.{Load}
 use Rattle.xp_base.specs.declared.step.Answer.{Answer}
 use Rattle.xp_base.specs.declared.step.Answer.TheVariants.{Word, Failed}
 use Rattle.xp_base.specs.declared.answer.SendAnswer.{SendAnswer}
 use Rattle.xp_base.specs.declared.answer.SendAnswer.TheVariants.{Ok as SendOk, TooBig, NotConnected, NoSlot}
 use Rattle.xp_base.specs.declared.link.LinkState.TheVariants.{Connected, Idle}
-use Rattle.xp_base.specs.History.{Act, Begun, Answered}
+use Rattle.xp_base.specs.History.{Act, Begun, Answered, Noticed}
 use Rattle.xp_rules.specs.declared.commands.Command.{Command}
-use Rattle.xp_rules.specs.declared.commands.Command.TheVariants.{Send, Take, Release}
+use Rattle.xp_rules.specs.declared.commands.Command.TheVariants.{Send, Take, Release, Drain}
 use Rattle.xp_rules.specs.declared.log.LogAnswer.{LogAnswer}
-use Rattle.xp_rules.specs.declared.log.LogAnswer.TheVariants.{Send as SendAnswered, Release as ReleaseAnswered}
+use Rattle.xp_rules.specs.declared.log.LogAnswer.TheVariants.{Send as SendAnswered}
 use Rattle.xp_rules.specs.declared.rule.RingRule.TheVariants.{ReadGet, WriteEntryWord, AcceptMessage}
 use Rattle.xp_rules.specs.declared.rule.PullRule.{PullRule}
 use Rattle.xp_rules.specs.declared.rule.PullRule.TheVariants.{ReadCounters, ReadEntry}
 use Rattle.xp_rules.specs.declared.rule.Rule.{Rule}
-use Rattle.xp_rules.specs.declared.rule.Rule.TheVariants.{Ring, Pull, Acknowledge}
+use Rattle.xp_rules.specs.declared.rule.Rule.TheVariants.{Ring, Pull, Acknowledge, TakeFlags, SetFlag}
 use Rattle.xp_rules.specs.declared.setup.Setup.{Setup}
 use Rattle.xp_rules.specs.Sending.{Sending, may_wait, is_bad_get, is_full, ring_after, ring_answer, send_over, get_known, begun_unless, send_begun, send_refusal, link_refusal}
 use Rattle.xp_rules.specs.Sending.{Send as Sendable}
-use Rattle.xp_rules.specs.Pulling.{get_heard, pull_failed, message_taken}
+use Rattle.xp_rules.specs.Pulling.{get_heard, pull_failed, take_answered}
+use Rattle.xp_rules.specs.Releasing.{release_refusal, released_unless, message_released}
 use Rattle.xp_rules.specs.State.{State, Scripted, End, end_of, end_at, set_end, link_of}
-use Rattle.xp_rules.specs.Rules.{Can, kind, send_decided, end_pulled, pull_numbered}
-use Rattle.xp_base.specs.declared.answer.ReleaseAnswer.TheVariants.{NotHeld, NotConnected as ReleaseNotConnected}
-use Rattle.xp_rules.specs.Acts.{MayAct, end_named, partner_named, channel_named, upcoming, current, due, due_to, decided_or, must_answer, is_accepted, send_answered, refusal_of, end_begun, begun_with, ends_answered, is_held}
+use Rattle.xp_rules.specs.Rules.{Can, kind, send_decided, end_sent, end_pulled, end_acknowledged, pull_numbered}
+use Rattle.xp_base.specs.declared.answer.ReleaseAnswer.{ReleaseAnswer}
+use Rattle.xp_rules.specs.Acts.{MayAct, end_named, partner_named, channel_named, upcoming, current, due, due_to, decided_or, must_answer, is_accepted, send_answered, decided_for, release_told, end_begun, begun_with, held_after, end_answered, ends_answered, end_noticed}
 use Rattle.xp_rules.specs.Promised.{Sent, Passed, first_of, full_told, first_full, closed_told, first_closed, accepted_told, last_accepted, refused_by, refused_first, first_cause, unless_answered, begun_send, answered_send}
+use Rattle.xp_rules.proofs.Slots.{at_end}
 use Rattle.xp_laws.proofs.Parts.{Part, part_act, part_ruled, passed_by, sends_ruled}
-use Rattle.xp_laws.proofs.Ends.{Other, end_other, end_here, stays_end, at_end}
+use Rattle.xp_laws.proofs.Ends.{Other, end_other, end_here, stays_end, stays_flagged}
 
 -- one step more
 first_of_none : (o : Option SendAnswer) → first_of o None ≡ o
@@ -132,29 +134,34 @@ pub record Doing (su : Setup) (st : State) (P : Command → Type 0) : Type 0 whe
   pub is : P command
 
 abbrev IsSendTo : ℕ → ℕ → Command → Type 0
-IsSendTo q c (Send k d payload wait) = (k ≡ q) × (d ≡ c)
-IsSendTo q c (Take k d) = ⊥
+IsSendTo q c (Send k d payload wait notify) = (k ≡ q) × (d ≡ c)
+IsSendTo q c (Take k d wait) = ⊥
 IsSendTo q c (Release k d number) = ⊥
+IsSendTo q c (Drain k d) = ⊥
 
 abbrev IsReleaseOf : ℕ → ℕ → Command → Type 0
-IsReleaseOf q c (Send k d payload wait) = ⊥
-IsReleaseOf q c (Take k d) = ⊥
+IsReleaseOf q c (Send k d payload wait notify) = ⊥
+IsReleaseOf q c (Take k d wait) = ⊥
 IsReleaseOf q c (Release k d number) = (k ≡ q) × (d ≡ c)
+IsReleaseOf q c (Drain k d) = ⊥
 
 send_not_release : (q c k d : ℕ) (x : Command) → IsSendTo q c x → IsReleaseOf k d x → ⊥
-send_not_release q c k d (Send a b payload wait) h i = i
-send_not_release q c k d (Take a b) h i = i
+send_not_release q c k d (Send a b payload wait notify) h i = i
+send_not_release q c k d (Take a b wait) h i = i
 send_not_release q c k d (Release a b number) h i = h
+send_not_release q c k d (Drain a b) h i = h
 
 one_send : (q c k d : ℕ) (x : Command) → IsSendTo q c x → IsSendTo k d x → (q ≡ k) × (c ≡ d)
-one_send q c k d (Send a b payload wait) h i = (sym h.0 ∙ i.0, sym h.1 ∙ i.1)
-one_send q c k d (Take a b) h i = absurd h
+one_send q c k d (Send a b payload wait notify) h i = (sym h.0 ∙ i.0, sym h.1 ∙ i.1)
+one_send q c k d (Take a b wait) h i = absurd h
 one_send q c k d (Release a b number) h i = absurd h
+one_send q c k d (Drain a b) h i = absurd h
 
 one_release : (q c k d : ℕ) (x : Command) → IsReleaseOf q c x → IsReleaseOf k d x → (q ≡ k) × (c ≡ d)
-one_release q c k d (Send a b payload wait) h i = absurd h
-one_release q c k d (Take a b) h i = absurd h
+one_release q c k d (Send a b payload wait notify) h i = absurd h
+one_release q c k d (Take a b wait) h i = absurd h
 one_release q c k d (Release a b number) h i = (sym h.0 ∙ i.0, sym h.1 ∙ i.1)
+one_release q c k d (Drain a b) h i = absurd h
 
 module _ (su : Setup) (st : State) where
   same_command : {P : Command → Type 0} {Q : Command → Type 0} → (h : Doing su st P) → (k : Doing su st Q) → h.command ≡ k.command
@@ -162,7 +169,7 @@ module _ (su : Setup) (st : State) where
 
 pub record Busy (su : Setup) (st : State) : Type 0 where
   pub sending : (q c : ℕ) → IsSome (end_of st q c).send.send → Doing su st (IsSendTo q c)
-  pub owing : (q c : ℕ) → (end_of st q c).stored < (end_of st q c).front → Doing su st (IsReleaseOf q c)
+  pub owing : (q c : ℕ) → (end_of st q c).stored < (end_of st q c).ack.front → Doing su st (IsReleaseOf q c)
 
 abbrev Caused : Sent → LogAnswer → Type 0
 Caused x a = (cause : SendAnswer) × (first_cause x ≡ Some cause) × (a ≡ SendAnswered cause)
@@ -172,7 +179,7 @@ Each xs = (n : ℕ) (x : Sent) → slice_get xs n ≡ Some x → (a : LogAnswer)
 
 pub record SendsOf (su : Setup) (st : State) (xs : List Sent) : Type 0 where
   pub busy : Busy su st
-  pub head : st.script.doing ≡ true → (q c : ℕ) (payload : List ℕ) (wait : Bool) → current su st ≡ Some (Send q c payload wait) → Head st q c xs
+  pub head : st.script.doing ≡ true → (q c : ℕ) (payload : List ℕ) (wait notify : Bool) → current su st ≡ Some (Send q c payload wait notify) → Head st q c xs
   pub each : Each xs
 
 abbrev pub Sends : Setup → Part → Type 0
@@ -203,7 +210,7 @@ record Face : Type 0 where
   stored : ℕ
 
 abbrev face : End → Face
-face e = record { send = e.send.send; put = e.send.put; entries = e.send.entries; front = e.front; stored = e.stored }
+face e = record { send = e.send.send; put = e.send.put; entries = e.send.entries; front = e.ack.front; stored = e.stored }
 
 -- a step that changes no face and no script
 module _ (su : Setup) (k : Part) (r : Rule) (b : Answer) (calm : must_answer k.state ≡ false) (h : Sends su k) where
@@ -239,9 +246,9 @@ module _ (su : Setup) (k : Part) (r : Rule) (b : Answer) (calm : must_answer k.s
         sending = λ q c i. doing_same (IsSendTo q c) (h.busy.sending q c (subst (λ (x : Face). IsSome x.send) (faces q c) i));
         owing = λ q c i. doing_same (IsReleaseOf q c) (h.busy.owing q c (subst (λ (x : Face). x.stored < x.front) (faces q c) i));
       };
-      head = λ d q c payload wait e.
+      head = λ d q c payload wait notify e.
           let d' = sym (ap (λ (x : Scripted). x.doing) script) ∙ d in
-          let o = h.head d' q c payload wait (sym (ap (λ (x : Scripted). slice_get su.script (x.begun - 1)) script) ∙ e) in
+          let o = h.head d' q c payload wait notify (sym (ap (λ (x : Scripted). slice_get su.script (x.begun - 1)) script) ∙ e) in
           record {
             sent = stepped o.sent (passed_by k.state (Some r) (kind k.state r) b o.sent.partner o.sent.channel);
             earlier = o.earlier;
@@ -266,7 +273,7 @@ module _ (su : Setup) (k : Part) (r : Rule) (b : Answer) (q0 c0 : ℕ) (x : End)
   doing_now : Doing su k.state (IsSendTo q0 c0)
   doing_now = h.busy.sending q0 c0 some
 
-  module _ (ends : (part_ruled k r b).state.ends ≡ set_end k.state.ends q0 c0 x) (none : x.send.send ≡ None) (front : x.front ≡ (end_of k.state q0 c0).front) (stored : x.stored ≡ (end_of k.state q0 c0).stored)
+  module _ (ends : (part_ruled k r b).state.ends ≡ set_end k.state.ends q0 c0 x) (none : x.send.send ≡ None) (front : x.ack.front ≡ (end_of k.state q0 c0).ack.front) (stored : x.stored ≡ (end_of k.state q0 c0).stored)
       (begun : (part_ruled k r b).state.script.begun ≡ k.state.script.begun)
       (done : (y : Sent) → y.partner ≡ q0 → y.channel ≡ c0 → Going y (end_of k.state q0 c0) k.state → Done (stepped y (passed_now y)) (part_ruled k r b).state) where
     no_send_by : (q c : ℕ) → (q ≡ q0) ⊎ (q ≡ q0 → ⊥) → (c ≡ c0) ⊎ (c ≡ c0 → ⊥) → IsSome (end_at (set_end k.state.ends q0 c0 x) q c).send.send → ⊥
@@ -293,9 +300,9 @@ module _ (su : Setup) (k : Part) (r : Rule) (b : Answer) (q0 c0 : ℕ) (x : End)
     no_send : (q c : ℕ) → IsSome (end_of ended_part.state q c).send.send → ⊥
     no_send q c i = no_send_by q c (cases_eq q q0) (cases_eq c c0) (subst (λ (es : List (List End)). IsSome (end_at es q c).send.send) ends i)
 
-    none_owed : (q c : ℕ) → (end_of ended_part.state q c).stored < (end_of ended_part.state q c).front → ⊥
+    none_owed : (q c : ℕ) → (end_of ended_part.state q c).stored < (end_of ended_part.state q c).ack.front → ⊥
     none_owed q c l =
-        let f = ap (λ (es : List (List End)). (end_at es q c).front) ends ∙ stays_end (λ (y : End). y.front) k.state.ends q0 c0 x q c front in
+        let f = ap (λ (es : List (List End)). (end_at es q c).ack.front) ends ∙ stays_end (λ (y : End). y.ack.front) k.state.ends q0 c0 x q c front in
         let g = ap (λ (es : List (List End)). (end_at es q c).stored) ends ∙ stays_end (λ (y : End). y.stored) k.state.ends q0 c0 x q c stored in
         let d = h.busy.owing q c (omega (arith, l, f, g)) in
         send_not_release q0 c0 q c d.command (subst (IsSendTo q0 c0) (same_command su k.state doing_now d) doing_now.is) d.is
@@ -308,12 +315,12 @@ module _ (su : Setup) (k : Part) (r : Rule) (b : Answer) (q0 c0 : ℕ) (x : End)
     pub ended : Sends su ended_part
     ended = record {
       busy = record { sending = λ q c i. absurd (no_send q c i); owing = λ q c l. absurd (none_owed q c l) };
-      head = λ d q c payload wait e.
-          let now : current su k.state ≡ Some (Send q c payload wait) = sym (ap (λ (n : ℕ). slice_get su.script (n - 1)) begun) ∙ e in
-          let both : Some doing_now.command ≡ Some (Send q c payload wait) = sym doing_now.now ∙ now in
-          let same : doing_now.command ≡ Send q c payload wait = cc in
-          let is : IsSendTo q0 c0 (Send q c payload wait) = subst (IsSendTo q0 c0) same doing_now.is in
-          let o = h.head doing_now.doing q c payload wait now in
+      head = λ d q c payload wait notify e.
+          let now : current su k.state ≡ Some (Send q c payload wait notify) = sym (ap (λ (n : ℕ). slice_get su.script (n - 1)) begun) ∙ e in
+          let both : Some doing_now.command ≡ Some (Send q c payload wait notify) = sym doing_now.now ∙ now in
+          let same : doing_now.command ≡ Send q c payload wait notify = cc in
+          let is : IsSendTo q0 c0 (Send q c payload wait notify) = subst (IsSendTo q0 c0) same doing_now.is in
+          let o = h.head doing_now.doing q c payload wait notify now in
           record {
             sent = stepped o.sent (passed_now o.sent);
             earlier = o.earlier;
@@ -402,7 +409,7 @@ module _ (su : Setup) (k : Part) (q0 c0 v : ℕ) (can : Can su k.state (Ring q0 
       inr (put_end.send.put, refl, λ i. first_of (g.unrefused i) (first_of (unfull i) (first_of (open_still i) (last i))))
 
   pub sends_accept : Sends su (part_ruled k (Ring q0 c0 AcceptMessage) (Word v))
-  sends_accept = ended su k (Ring q0 c0 AcceptMessage) (Word v) q0 c0 (record put_end { send = record (send_over put_end.send) { put = put_end.send.put + 1 } }) h can.0.warm can.1.0 refl refl refl refl refl accept_done
+  sends_accept = ended su k (Ring q0 c0 AcceptMessage) (Word v) q0 c0 (end_sent AcceptMessage v put_end) h can.0.warm can.1.0 refl refl refl refl refl accept_done
 
 -- get is stored
 module _ (su : Setup) (k : Part) (q0 c0 v : ℕ) (can : Can su k.state (Acknowledge q0 c0)) (h : Sends su k) where
@@ -416,19 +423,19 @@ module _ (su : Setup) (k : Part) (q0 c0 v : ℕ) (can : Can su k.state (Acknowle
   releasing = h.busy.owing q0 c0 can.1
 
   send_kept : (q c : ℕ) → (end_of acknowledged.state q c).send.send ≡ (end_of k.state q c).send.send
-  send_kept q c = stays_end (λ (y : End). y.send.send) k.state.ends q0 c0 (record got_end { stored = got_end.front; releasing = false }) q c refl
+  send_kept q c = stays_end (λ (y : End). y.send.send) k.state.ends q0 c0 (end_acknowledged got_end) q c refl
 
-  other_owes : (q c : ℕ) → Other q c q0 c0 → (end_of acknowledged.state q c).stored < (end_of acknowledged.state q c).front → ⊥
+  other_owes : (q c : ℕ) → Other q c q0 c0 → (end_of acknowledged.state q c).stored < (end_of acknowledged.state q c).ack.front → ⊥
   other_owes q c o l =
-      let d = h.busy.owing q c (subst (λ (y : End). y.stored < y.front) (end_other k.state.ends q0 c0 (record got_end { stored = got_end.front; releasing = false }) q c o) l) in
+      let d = h.busy.owing q c (subst (λ (y : End). y.stored < y.ack.front) (end_other k.state.ends q0 c0 (end_acknowledged got_end) q c o) l) in
       let s = one_release q c q0 c0 d.command d.is (subst (IsReleaseOf q0 c0) (same_command su k.state releasing d) releasing.is) in
       o s.0 s.1
 
-  here_owes : (end_of acknowledged.state q0 c0).stored < (end_of acknowledged.state q0 c0).front → ⊥
-  here_owes l = let f : got_end.front < got_end.front = subst (λ (y : End). y.stored < y.front) (end_here k.state.ends q0 c0 (record got_end { stored = got_end.front; releasing = false }) can.0.warm) l in absurd (omega (arith, f))
+  here_owes : (end_of acknowledged.state q0 c0).stored < (end_of acknowledged.state q0 c0).ack.front → ⊥
+  here_owes l = let f : got_end.ack.front < got_end.ack.front = subst (λ (y : End). y.stored < y.ack.front) (end_here k.state.ends q0 c0 (end_acknowledged got_end) can.0.warm) l in absurd (omega (arith, f))
 
-  owes_by : (q c : ℕ) → (q ≡ q0) ⊎ (q ≡ q0 → ⊥) → (c ≡ c0) ⊎ (c ≡ c0 → ⊥) → (end_of acknowledged.state q c).stored < (end_of acknowledged.state q c).front → ⊥
-  owes_by q c (inl e) (inl f) l = here_owes (subst (λ (y : End). y.stored < y.front) (λ i. end_of acknowledged.state (e i) (f i)) l)
+  owes_by : (q c : ℕ) → (q ≡ q0) ⊎ (q ≡ q0 → ⊥) → (c ≡ c0) ⊎ (c ≡ c0 → ⊥) → (end_of acknowledged.state q c).stored < (end_of acknowledged.state q c).ack.front → ⊥
+  owes_by q c (inl e) (inl f) l = here_owes (subst (λ (y : End). y.stored < y.ack.front) (λ i. end_of acknowledged.state (e i) (f i)) l)
   owes_by q c (inl e) (inr n) l = other_owes q c (λ a b. n b) l
   owes_by q c (inr n) f l = other_owes q c (λ a b. n a) l
 
@@ -441,10 +448,10 @@ module _ (su : Setup) (k : Part) (q0 c0 v : ℕ) (can : Can su k.state (Acknowle
       sending = λ q c i. let d = h.busy.sending q c (subst (λ (o : Option Sendable). IsSome o) (send_kept q c) i) in absurd (send_not_release q c q0 c0 d.command d.is (subst (IsReleaseOf q0 c0) (same_command su k.state releasing d) releasing.is));
       owing = λ q c l. absurd (owes_by q c (cases_eq q q0) (cases_eq c c0) l);
     };
-    head = λ d q c payload wait e.
-        let both : Some releasing.command ≡ Some (Send q c payload wait) = sym releasing.now ∙ sym (ap (λ (n : ℕ). slice_get su.script (n - 1)) same_begun) ∙ e in
-        let same : releasing.command ≡ Send q c payload wait = cc in
-        let never : IsReleaseOf q0 c0 (Send q c payload wait) = subst (IsReleaseOf q0 c0) same releasing.is in
+    head = λ d q c payload wait notify e.
+        let both : Some releasing.command ≡ Some (Send q c payload wait notify) = sym releasing.now ∙ sym (ap (λ (n : ℕ). slice_get su.script (n - 1)) same_begun) ∙ e in
+        let same : releasing.command ≡ Send q c payload wait notify = cc in
+        let never : IsReleaseOf q0 c0 (Send q c payload wait notify) = subst (IsReleaseOf q0 c0) same releasing.is in
         absurd never;
     each = each_ruled k.state (Acknowledge q0 c0) (Word v) k.sends h.each;
   }
@@ -477,6 +484,14 @@ sends_rule su k (Pull q c m) v calm can good h =
     (λ a b. stays_end face k.state.ends q c (end_pulled m v (pull_numbered k.state.copies m (end_of k.state q c))) a b (pulled_face k.state m v (end_of k.state q c)))
     (λ a b y ep ec g. no_plain y)
 sends_rule su k (Acknowledge q c) v calm can good h = sends_acknowledge su k q c v can h
+sends_rule su k (TakeFlags q) v calm can good h =
+    passes su k (TakeFlags q) (Word v) calm h refl
+    (λ a b. stays_flagged face (λ e. refl) k.state.ends q v a b)
+    (λ a b y ep ec g. no_plain y)
+sends_rule su k (SetFlag q c) v calm can good h =
+    passes su k (SetFlag q c) (Word v) calm h refl
+    (λ a b. stays_end face k.state.ends q c (record (end_of k.state q c) { owes_message = false }) a b refl)
+    (λ a b y ep ec g. no_plain y)
 
 pub sends_failed : (su : Setup) (k : Part) (r : Rule) → must_answer k.state ≡ false → kind k.state r ≡ Load → Sends su k → Sends su (part_ruled k r Failed)
 sends_failed su k (Ring q c ReadGet) calm load h = passes su k (Ring q c ReadGet) Failed calm h refl (λ a b. refl) (λ a b y ep ec g. no_plain y)
@@ -487,6 +502,8 @@ sends_failed su k (Pull q c m) calm load h =
     (λ a b. stays_end face k.state.ends q c (record (pull_numbered k.state.copies m (end_of k.state q c)) { pull = pull_failed (end_of k.state q c).pull m }) a b (failed_face k.state m (end_of k.state q c)))
     (λ a b y ep ec g. no_plain y)
 sends_failed su k (Acknowledge q c) calm load h = absurd (cc)
+sends_failed su k (TakeFlags q) calm load h = absurd (cc)
+sends_failed su k (SetFlag q c) calm load h = absurd (cc)
 
 -- a command is begun
 started_some : (e : End) (sd : Sendable) (b : Bool) (o : Option SendAnswer) → IsSome (cond b (record e { send = begun_unless o sd e.send }) e).send.send → (IsSome e.send.send → ⊥) → cond b (send_answered o) (Some (SendAnswered NotConnected)) ≡ None
@@ -494,72 +511,73 @@ started_some e sd true None i n = refl
 started_some e sd true (Some a) i n = absurd (n i)
 started_some e sd false o i n = absurd (n i)
 
-started_owes : (e : End) (w held : Bool) (a b : LogAnswer) → (cond (w && held) (record e { front = e.front + 1; releasing = true }) e).stored < (cond (w && held) (record e { front = e.front + 1; releasing = true }) e).front → (e.stored < e.front → ⊥) → cond w (cond held None (Some a)) (Some b) ≡ None
-started_owes e true true a b l n = refl
-started_owes e true false a b l n = absurd (n l)
-started_owes e false held a b l n = absurd (n l)
+started_owes : (e : End) (o : Option ReleaseAnswer) (number : ℕ) → e.stored < (released_unless o number e.ack).front → (e.stored < e.ack.front → ⊥) → release_told o number e.ack ≡ None
+started_owes e None number l n = rw (ne_eqb e.ack.front (message_released number e.ack).front (λ d. n (omega (arith, l, d)))) refl
+started_owes e (Some a) number l n = absurd (n l)
 
 module _ (su : Setup) (st : State) (xs : List Sent) (idle : st.script.doing ≡ false) (h : SendsOf su st xs) where
   quiet_send : (q c : ℕ) → IsSome (end_of st q c).send.send → ⊥
   quiet_send q c i = let d = (h.busy.sending q c i).doing in absurd (cc)
 
-  quiet_owes : (q c : ℕ) → (end_of st q c).stored < (end_of st q c).front → ⊥
+  quiet_owes : (q c : ℕ) → (end_of st q c).stored < (end_of st q c).ack.front → ⊥
   quiet_owes q c l = let d = (h.busy.owing q c l).doing in absurd (cc)
 
   now_begun : (x : Command) → upcoming su st ≡ Some x → current su (begun_with st (Some x)) ≡ Some x
   now_begun x u = let e : st.script.begun + 1 - 1 ≡ st.script.begun = omega arith in ap (slice_get su.script) e ∙ u
 
   begun_sending : (x : Command) (q c : ℕ) → upcoming su st ≡ Some x → q ≡ partner_named x → c ≡ channel_named x → IsSome (end_begun (end_named st x) x).send.send → Doing su (begun_with st (Some x)) (IsSendTo q c)
-  begun_sending (Send k d payload wait) q c u a b i = record {
+  begun_sending (Send k d payload wait notify) q c u a b i = record {
     doing = refl;
-    undecided = started_some (end_of st k d) (record { payload = payload; wait = wait; notify = false }) (end_of st k d).warm (send_refusal (link_of (end_of st k d)) payload (end_of st k d).send) i (quiet_send k d);
-    command = Send k d payload wait;
-    now = now_begun (Send k d payload wait) u;
+    undecided = started_some (end_of st k d) (record { payload = payload; wait = wait; notify = notify }) (end_of st k d).warm (send_refusal (link_of (end_of st k d)) payload (end_of st k d).send) i (quiet_send k d);
+    command = Send k d payload wait notify;
+    now = now_begun (Send k d payload wait notify) u;
     is = (sym a, sym b);
   }
-  begun_sending (Take k d) q c u a b i = absurd (quiet_send k d i)
-  begun_sending (Release k d number) q c u a b i = absurd (cond_both ((end_of st k d).warm && is_held (end_of st k d) number) (record (end_of st k d) { front = (end_of st k d).front + 1; releasing = true }) (end_of st k d) (λ (y : End). IsSome y.send.send → ⊥) (λ z j. quiet_send k d j) (λ z j. quiet_send k d j) i)
+  begun_sending (Take k d wait) q c u a b i = absurd (quiet_send k d i)
+  begun_sending (Release k d number) q c u a b i = absurd (quiet_send k d i)
+  begun_sending (Drain k d) q c u a b i = absurd (quiet_send k d i)
 
-  begun_owing : (x : Command) (q c : ℕ) → upcoming su st ≡ Some x → q ≡ partner_named x → c ≡ channel_named x → (end_begun (end_named st x) x).stored < (end_begun (end_named st x) x).front → Doing su (begun_with st (Some x)) (IsReleaseOf q c)
-  begun_owing (Send k d payload wait) q c u a b l = absurd (cond_both (end_of st k d).warm (record (end_of st k d) { send = send_begun (link_of (end_of st k d)) (record { payload = payload; wait = wait; notify = false }) (end_of st k d).send }) (end_of st k d) (λ (y : End). y.stored < y.front → ⊥) (λ z j. quiet_owes k d j) (λ z j. quiet_owes k d j) l)
-  begun_owing (Take k d) q c u a b l = absurd (quiet_owes k d l)
+  begun_owing : (x : Command) (q c : ℕ) → upcoming su st ≡ Some x → q ≡ partner_named x → c ≡ channel_named x → (end_begun (end_named st x) x).stored < (end_begun (end_named st x) x).ack.front → Doing su (begun_with st (Some x)) (IsReleaseOf q c)
+  begun_owing (Send k d payload wait notify) q c u a b l = absurd (cond_both (end_of st k d).warm (record (end_of st k d) { send = send_begun (link_of (end_of st k d)) (record { payload = payload; wait = wait; notify = notify }) (end_of st k d).send }) (end_of st k d) (λ (y : End). y.stored < y.ack.front → ⊥) (λ z j. quiet_owes k d j) (λ z j. quiet_owes k d j) l)
+  begun_owing (Take k d wait) q c u a b l = absurd (quiet_owes k d l)
+  begun_owing (Drain k d) q c u a b l = absurd (quiet_owes k d l)
   begun_owing (Release k d number) q c u a b l = record {
     doing = refl;
-    undecided = started_owes (end_of st k d) (end_of st k d).warm (is_held (end_of st k d) number) (ReleaseAnswered NotHeld) (ReleaseAnswered ReleaseNotConnected) l (quiet_owes k d);
+    undecided = started_owes (end_of st k d) (release_refusal (link_of (end_of st k d)) number (end_of st k d).ack) number l (quiet_owes k d);
     command = Release k d number;
     now = now_begun (Release k d number) u;
     is = (sym a, sym b);
   }
 
   -- the send that is begun
-  module _ (q c : ℕ) (payload : List ℕ) (wait : Bool) where
+  module _ (q c : ℕ) (payload : List ℕ) (wait notify : Bool) where
     abbrev sending_end : End
     sending_end = end_of st q c
 
     abbrev sending_now : Command
-    sending_now = Send q c payload wait
+    sending_now = Send q c payload wait notify
 
     abbrev sent_now : Sent
     sent_now = record { number = st.script.begun + 1; partner = q; channel = c; payload = payload; wait = wait; beginning = end_of st q c; steps = []; answer = None }
 
     abbrev started : State
-    started = begun_with st (Some (Send q c payload wait))
+    started = begun_with st (Some (Send q c payload wait notify))
 
     abbrev Stage : Type 0
     Stage = Done sent_now started ⊎ Going sent_now (end_of started q c) started
 
     started_stage : (w big : Bool) → sending_end.warm ≡ w → ltb sending_end.send.limit (length payload) ≡ big → Stage
     started_stage false big e f =
-        let decided : refusal_of sending_end sending_now ≡ Some (SendAnswered NotConnected) = ap (λ (b : Bool). cond b (send_answered (send_refusal (link_of sending_end) payload sending_end.send)) (Some (SendAnswered NotConnected))) e in
+        let decided : decided_for sending_end sending_now ≡ Some (SendAnswered NotConnected) = ap (λ (b : Bool). cond b (send_answered (send_refusal (link_of sending_end) payload sending_end.send)) (Some (SendAnswered NotConnected))) e in
         let refused : refused_first sending_end payload ≡ Some NotConnected = ap (λ (b : Bool). cond (b && ltb sending_end.send.limit (length payload)) (Some (TooBig (length payload) sending_end.send.limit)) (refused_by (cond b Connected Idle))) e in
         inl (inl (NotConnected, decided, record { cases = inl refused }))
     started_stage true true e f =
-        let decided : refusal_of sending_end sending_now ≡ Some (SendAnswered (TooBig (length payload) sending_end.send.limit)) = λ i. cond (e i) (send_answered (cond (f i) (Some (TooBig (length payload) sending_end.send.limit)) (link_refusal (link_of sending_end)))) (Some (SendAnswered NotConnected)) in
+        let decided : decided_for sending_end sending_now ≡ Some (SendAnswered (TooBig (length payload) sending_end.send.limit)) = λ i. cond (e i) (send_answered (cond (f i) (Some (TooBig (length payload) sending_end.send.limit)) (link_refusal (link_of sending_end)))) (Some (SendAnswered NotConnected)) in
         let refused : refused_first sending_end payload ≡ Some (TooBig (length payload) sending_end.send.limit) = λ i. cond (e i && f i) (Some (TooBig (length payload) sending_end.send.limit)) (refused_by (link_of sending_end)) in
         inl (inl (TooBig (length payload) sending_end.send.limit, decided, record { cases = inl refused }))
     started_stage true false e f =
-        let sd : Sendable = record { payload = payload; wait = wait; notify = false } in
-        let decided : refusal_of sending_end sending_now ≡ None = λ i. cond (e i) (send_answered (cond (f i) (Some (TooBig (length payload) sending_end.send.limit)) (link_refusal (cond (e i) Connected Idle)))) (Some (SendAnswered NotConnected)) in
+        let sd : Sendable = record { payload = payload; wait = wait; notify = notify } in
+        let decided : decided_for sending_end sending_now ≡ None = λ i. cond (e i) (send_answered (cond (f i) (Some (TooBig (length payload) sending_end.send.limit)) (link_refusal (cond (e i) Connected Idle)))) (Some (SendAnswered NotConnected)) in
         let refused : refused_first sending_end payload ≡ None = λ i. cond (e i && f i) (Some (TooBig (length payload) sending_end.send.limit)) (refused_by (cond (e i) Connected Idle)) in
         let began : end_begun sending_end sending_now ≡ record sending_end { send = record sending_end.send { send = Some sd; stored = 0 } } = λ i. cond (e i) (record sending_end { send = begun_unless (cond (f i) (Some (TooBig (length payload) sending_end.send.limit)) (link_refusal (cond (e i) Connected Idle))) sd sending_end.send }) sending_end in
         let here : end_of started q c ≡ record sending_end { send = record sending_end.send { send = Some sd; stored = 0 } } = end_here st.ends q c (end_begun sending_end sending_now) e ∙ began in
@@ -578,52 +596,63 @@ module _ (su : Setup) (st : State) (xs : List Sent) (idle : st.script.doing ≡ 
     started_head = record { sent = sent_now; earlier = xs; sends_are = refl; partner = refl; channel = refl; unanswered = refl; number = refl; stage = started_stage sending_end.warm (ltb sending_end.send.limit (length payload)) refl refl }
 
   each_begun : (x : Command) → Each (begun_send st (Some x) xs)
-  each_begun (Send q c payload wait) zero x e a f = let g : None ≡ Some a = ap (λ (o : Option Sent). answer_in o) e ∙ f in absurd (cc)
+  each_begun (Send q c payload wait notify) zero x e a f = let g : None ≡ Some a = ap (λ (o : Option Sent). answer_in o) e ∙ f in absurd (cc)
     where
       answer_in : Option Sent → Option LogAnswer
       answer_in None = None
       answer_in (Some y) = y.answer
-  each_begun (Send q c payload wait) (suc n) x e a f = h.each n x e a f
-  each_begun (Take q c) n x e a f = h.each n x e a f
+  each_begun (Send q c payload wait notify) (suc n) x e a f = h.each n x e a f
+  each_begun (Take q c wait) n x e a f = h.each n x e a f
   each_begun (Release q c number) n x e a f = h.each n x e a f
+  each_begun (Drain q c) n x e a f = h.each n x e a f
 
   begun_ok : (x : Command) → upcoming su st ≡ Some x → SendsOf su (begun_with st (Some x)) (begun_send st (Some x) xs)
   begun_ok x u = record {
     busy = record {
       sending = λ q c. at_end (λ (y : End). IsSome y.send.send → Doing su (begun_with st (Some x)) (IsSendTo q c)) st.ends (partner_named x) (channel_named x) (end_begun (end_named st x) x) q c (λ a b. begun_sending x q c u a b) (λ i. absurd (quiet_send q c i));
-      owing = λ q c. at_end (λ (y : End). y.stored < y.front → Doing su (begun_with st (Some x)) (IsReleaseOf q c)) st.ends (partner_named x) (channel_named x) (end_begun (end_named st x) x) q c (λ a b. begun_owing x q c u a b) (λ i. absurd (quiet_owes q c i));
+      owing = λ q c. at_end (λ (y : End). y.stored < y.ack.front → Doing su (begun_with st (Some x)) (IsReleaseOf q c)) st.ends (partner_named x) (channel_named x) (end_begun (end_named st x) x) q c (λ a b. begun_owing x q c u a b) (λ i. absurd (quiet_owes q c i));
     };
-    head = λ d q c payload wait e.
-        let both : Some x ≡ Some (Send q c payload wait) = sym (now_begun x u) ∙ e in
-        let same : x ≡ Send q c payload wait = cc in
-        subst (λ (y : Command). Head (begun_with st (Some y)) q c (begun_send st (Some y) xs)) (sym same) (started_head q c payload wait);
+    head = λ d q c payload wait notify e.
+        let both : Some x ≡ Some (Send q c payload wait notify) = sym (now_begun x u) ∙ e in
+        let same : x ≡ Send q c payload wait notify = cc in
+        subst (λ (y : Command). Head (begun_with st (Some y)) q c (begun_send st (Some y) xs)) (sym same) (started_head q c payload wait notify);
     each = each_begun x;
   }
 
   begun_none : SendsOf su (begun_with st None) (begun_send st None xs)
-  begun_none = record { busy = h.busy; head = λ d q c payload wait e. absurd (cc); each = h.each }
+  begun_none = record { busy = h.busy; head = λ d q c payload wait notify e. absurd (cc); each = h.each }
 
   begun_any : (o : Option Command) → upcoming su st ≡ o → SendsOf su (begun_with st o) (begun_send st o xs)
   begun_any None u = begun_none
   begun_any (Some x) u = begun_ok x u
 
 -- the command in progress is answered
+answered_face : (e : End) → face (end_answered e) ≡ face e
+answered_face e = take_face e.pull.empty
+  where
+    take_face : (shown : Option ℕ) → face (record e { pull = take_answered shown e.pull; ack = held_after shown e.ack }) ≡ face e
+    take_face None = refl
+    take_face (Some put) = refl
+
 send_answered_kept : (st : State) (x : Option Command) (b : Option LogAnswer) (q c : ℕ) → face (end_at (ends_answered st x b) q c) ≡ face (end_of st q c)
 send_answered_kept st None b q c = refl
-send_answered_kept st (Some (Send k d payload wait)) b q c = refl
+send_answered_kept st (Some (Send k d payload wait notify)) b q c = refl
 send_answered_kept st (Some (Release k d number)) b q c = refl
-send_answered_kept st (Some (Take k d)) None q c = stays_end face st.ends k d (record (end_of st k d) { pull = message_taken (end_of st k d).pull }) q c refl
-send_answered_kept st (Some (Take k d)) (Some a) q c = refl
+send_answered_kept st (Some (Drain k d)) b q c = refl
+send_answered_kept st (Some (Take k d wait)) None q c = stays_end face st.ends k d (end_answered (end_of st k d)) q c (answered_face (end_of st k d))
+send_answered_kept st (Some (Take k d wait)) (Some a) q c = refl
 
 due_of_send : (st : State) (q c : ℕ) (x : Command) → IsSendTo q c x → due_to st (Some x) ≡ None
-due_of_send st q c (Send k d payload wait) i = refl
-due_of_send st q c (Take k d) i = absurd i
+due_of_send st q c (Send k d payload wait notify) i = refl
+due_of_send st q c (Take k d wait) i = absurd i
 due_of_send st q c (Release k d number) i = absurd i
+due_of_send st q c (Drain k d) i = absurd i
 
 due_of_release : (st : State) (q c : ℕ) (x : Command) → IsReleaseOf q c x → due_to st (Some x) ≡ None
-due_of_release st q c (Send k d payload wait) i = absurd i
-due_of_release st q c (Take k d) i = absurd i
+due_of_release st q c (Send k d payload wait notify) i = absurd i
+due_of_release st q c (Take k d wait) i = absurd i
 due_of_release st q c (Release k d number) i = refl
+due_of_release st q c (Drain k d) i = absurd i
 
 none_due : (su : Setup) (st : State) (P : Command → Type 0) → ((x : Command) → P x → due_to st (Some x) ≡ None) → Doing su st P → due su st ≡ None
 none_due su st P f d = (λ i. cond (d.doing i) (decided_or (d.undecided i) (due_to st (d.now i))) None) ∙ f d.command d.is
@@ -637,8 +666,8 @@ is_doing true o i = refl
 is_doing false o i = absurd (cc)
 
 module _ (su : Setup) (st : State) (xs : List Sent) (some : IsSome (due su st)) (h : SendsOf su st xs) where
-  answered_caused : (q c : ℕ) (payload : List ℕ) (wait : Bool) → current su st ≡ Some (Send q c payload wait) → (o : Head st q c xs) → (a : LogAnswer) → due su st ≡ Some a → Caused (record o.sent { answer = due su st }) a
-  answered_caused q c payload wait e o a f = by o.stage
+  answered_caused : (q c : ℕ) (payload : List ℕ) (wait notify : Bool) → current su st ≡ Some (Send q c payload wait notify) → (o : Head st q c xs) → (a : LogAnswer) → due su st ≡ Some a → Caused (record o.sent { answer = due su st }) a
+  answered_caused q c payload wait notify e o a f = by o.stage
     where
       doing : st.script.doing ≡ true
       doing = is_doing st.script.doing (decided_or st.script.decided (due_to st (current su st))) some
@@ -657,13 +686,52 @@ module _ (su : Setup) (st : State) (xs : List Sent) (some : IsSome (due su st)) 
 
   each_answered : (o : Option Command) → current su st ≡ o → Each (answered_send o (due su st) xs)
   each_answered None e = h.each
-  each_answered (Some (Take q c)) e = h.each
+  each_answered (Some (Take q c wait)) e = h.each
   each_answered (Some (Release q c number)) e = h.each
-  each_answered (Some (Send q c payload wait)) e =
+  each_answered (Some (Drain q c)) e = h.each
+  each_answered (Some (Send q c payload wait notify)) e =
       let doing : st.script.doing ≡ true = is_doing st.script.doing (decided_or st.script.decided (due_to st (current su st))) some in
-      let o = h.head doing q c payload wait e in
+      let o = h.head doing q c payload wait notify e in
       let old : Each (o.sent ∷ o.earlier) = subst Each o.sends_are h.each in
-      subst Each (sym (ap (answered_send (Some (Send q c payload wait)) (due su st)) o.sends_are)) (each_cons (record o.sent { answer = due su st }) o.earlier (answered_caused q c payload wait e o) (λ n x f a g. old (suc n) x f a g))
+      subst Each (sym (ap (answered_send (Some (Send q c payload wait notify)) (due su st)) o.sends_are)) (each_cons (record o.sent { answer = due su st }) o.earlier (answered_caused q c payload wait notify e o) (λ n x f a g. old (suc n) x f a g))
+
+-- a notice is given
+module _ (su : Setup) (k : Part) (q0 c0 : ℕ) (h : Sends su k) where
+  abbrev noticed : Part
+  noticed = part_act su k (Noticed q0 c0)
+
+  noticed_face : (q c : ℕ) → face (end_of noticed.state q c) ≡ face (end_of k.state q c)
+  noticed_face q c = stays_end face k.state.ends q0 c0 (end_noticed (end_of k.state q0 c0)) q c refl
+
+  still_doing : (P : Command → Type 0) → Doing su k.state P → Doing su noticed.state P
+  still_doing P d = record { doing = d.doing; undecided = d.undecided; command = d.command; now = d.now; is = d.is }
+
+  stage_noticed : (q c : ℕ) (y : Sent) → Done y k.state ⊎ Going y (end_of k.state q c) k.state → Done y noticed.state ⊎ Going y (end_of noticed.state q c) noticed.state
+  stage_noticed q c y (inl g) = inl g
+  stage_noticed q c y (inr g) =
+      let f = noticed_face q c in
+      inr (record {
+        undecided = g.undecided;
+        unrefused = g.unrefused;
+        unfull = g.unfull;
+        still_open = g.still_open;
+        sends = subst (λ (x : Face). IsSome x.send) (sym f) g.sends;
+        waits = ap (λ (x : Face). may_wait x.send) f ∙ g.waits;
+        put = ap (λ (x : Face). x.put) f ∙ g.put;
+        entries = ap (λ (x : Face). x.entries) f ∙ g.entries;
+      })
+
+  sends_noticed : Sends su noticed
+  sends_noticed = record {
+    busy = record {
+      sending = λ q c i. still_doing (IsSendTo q c) (h.busy.sending q c (subst (λ (x : Face). IsSome x.send) (noticed_face q c) i));
+      owing = λ q c l. still_doing (IsReleaseOf q c) (h.busy.owing q c (subst (λ (x : Face). x.stored < x.front) (noticed_face q c) l));
+    };
+    head = λ d q c payload wait notify e.
+        let o = h.head d q c payload wait notify e in
+        record { sent = o.sent; earlier = o.earlier; sends_are = o.sends_are; partner = o.partner; channel = o.channel; unanswered = o.unanswered; number = o.number; stage = stage_noticed q c o.sent o.stage };
+    each = h.each;
+  }
 
 pub sends_act : (su : Setup) (k : Part) (x : Act) → MayAct su k.state x → Sends su k → Sends su (part_act su k x)
 sends_act su k Begun may h = begun_any su k.state k.sends may.0 h (upcoming su k.state) refl
@@ -672,6 +740,7 @@ sends_act su k Answered may h = record {
     sending = λ q c i. let d = h.busy.sending q c (subst (λ (x : Face). IsSome x.send) (send_answered_kept k.state (current su k.state) k.state.script.decided q c) i) in absurd (no_some (due su k.state) (none_due su k.state (IsSendTo q c) (due_of_send k.state q c) d) may);
     owing = λ q c l. let d = h.busy.owing q c (subst (λ (x : Face). x.stored < x.front) (send_answered_kept k.state (current su k.state) k.state.script.decided q c) l) in absurd (no_some (due su k.state) (none_due su k.state (IsReleaseOf q c) (due_of_release k.state q c) d) may);
   };
-  head = λ d q c payload wait e. absurd (cc);
+  head = λ d q c payload wait notify e. absurd (cc);
   each = each_answered su k.state k.sends may h (current su k.state) refl;
 }
+sends_act su k (Noticed q c) may h = sends_noticed su k q c h
