@@ -1,7 +1,7 @@
 -- What a lawful setup says of each of its links and commands.
-use Rattle.std.proofs.Common.{◌≡◌, ℕ, zero, suc, ◌<◌, List, [], ◌∷◌, length, get_or, slice_get, Some, arith, subst, sym}
+use Rattle.std.proofs.Common.{◌≡◌, ℕ, zero, suc, ◌<◌, List, [], ◌∷◌, length, get_or, slice_get, Some, arith, subst, sym, ap}
 use Rattle.xp_rules.specs.declared.commands.Command.{Command}
-use Rattle.xp_rules.specs.declared.commands.Command.TheVariants.{Send, Take, Release}
+use Rattle.xp_rules.specs.declared.commands.Command.TheVariants.{Send, Take, Release, Drain}
 use Rattle.xp_rules.specs.Acts.{partner_named, channel_named}
 use Rattle.xp_node.specs.End.{IsShort}
 use Rattle.xp_rules.specs.declared.setup.Link.{Link}
@@ -16,17 +16,29 @@ link_at s (l ∷ ls) (suc i) d a h = link_at s ls i d a.1 (omega arith)
 pub size_at : (s : Setup) (ls : List Link) (i : ℕ) (x : Link) → AreLawfulLinks s ls → i < length ls → x ≡ get_or ls i x → IsSize x.entries x.limit
 size_at s ls i x a h e = let P : Link → Type 0 = λ y. IsSize y.entries y.limit in subst P (sym e) (link_at s ls i x a h).1
 
+pub link_is : (ls : List Link) (i : ℕ) (l : Link) → i < length ls → l ≡ get_or ls i l → slice_get ls i ≡ Some l
+link_is [] i l h e = absurd (omega arith)
+link_is (x ∷ ls) zero l h e = ap (λ (y : Link). Some y) (sym e)
+link_is (x ∷ ls) (suc i) l h e = link_is ls i l (omega arith) e
+
+pub link_in : (s : Setup) (ls : List Link) (i : ℕ) (l : Link) → AreLawfulLinks s ls → slice_get ls i ≡ Some l → IsLawfulLink s l
+link_in s [] i l a e = absurd (cc)
+link_in s (x ∷ ls) zero l a e = let f : x ≡ l = cc in subst (λ (y : Link). IsLawfulLink s y) f a.0
+link_in s (x ∷ ls) (suc i) l a e = link_in s ls i l a.1 e
+
 pub command_at : (s : Setup) (xs : List Command) (i : ℕ) (x : Command) → AreLawfulCommands s xs → slice_get xs i ≡ Some x → IsLawfulCommand s x
 command_at s [] i x a e = absurd (cc)
 command_at s (y ∷ xs) zero x a e = let P : Command → Type 0 = λ z. IsLawfulCommand s z in let f : y ≡ x = cc in subst P f a.0
 command_at s (y ∷ xs) (suc i) x a e = command_at s xs i x a.1 e
 
 pub short : (s : Setup) (x : Command) → IsLawfulCommand s x → IsShort x
-short s (Send q c payload wait) h = h.1
-short s (Take q c) h = tt
+short s (Send q c payload wait notify) h = h.1
+short s (Take q c wait) h = tt
 short s (Release q c number) h = tt
+short s (Drain q c) h = tt
 
 pub peer : (s : Setup) (x : Command) → IsLawfulCommand s x → IsPeer s.part s.count (partner_named x) (channel_named x)
-peer s (Send q c payload wait) h = h.0
-peer s (Take q c) h = h
+peer s (Send q c payload wait notify) h = h.0
+peer s (Take q c wait) h = h
 peer s (Release q c number) h = h
+peer s (Drain q c) h = h

@@ -4,14 +4,14 @@ use Rattle.std.proofs.lemmas.Bool.{cases_eq}
 use Rattle.xp_rules.specs.declared.log.Entry.{Entry}
 use Rattle.xp_base.specs.declared.answer.TakeAnswer.TheVariants.{Taken, Empty, Disconnecting, NotConnected}
 use Rattle.xp_rules.specs.declared.commands.Command.{Command}
-use Rattle.xp_rules.specs.declared.commands.Command.TheVariants.{Send, Take, Release}
+use Rattle.xp_rules.specs.declared.commands.Command.TheVariants.{Send, Take, Release, Drain}
 use Rattle.xp_rules.specs.declared.log.LogAnswer.{LogAnswer}
-use Rattle.xp_rules.specs.declared.log.LogAnswer.TheVariants.{Send as SendAnswered, Take as TakeAnswered, Release as ReleaseAnswered}
+use Rattle.xp_rules.specs.declared.log.LogAnswer.TheVariants.{Send as SendAnswered, Take as TakeAnswered, Release as ReleaseAnswered, Drain as DrainAnswered}
 use Rattle.xp_rules.specs.declared.records.Record.{Record}
-use Rattle.xp_rules.specs.Records.{Recorded, seen, update_at}
+use Rattle.xp_rules.specs.Records.{Recorded, seen, accepted_room, taken_room, asked_room, delivered_room, update_at}
 use Rattle.xp_rules.specs.State.{State}
 use Rattle.xp_rules.specs.Logged.{records_taken, last_answered}
-use Rattle.xp_node.specs.Kept.{least, take_place, taken_at}
+use Rattle.xp_node.specs.Kept.{least, records_room, RoomFalls, Falls, take_place, taken_at}
 
 pub update_set : (rs : List Record) (i : ℕ) (x d : Record) (f : Recorded → Recorded) → i < length rs → seen x ≡ f (seen (get_or rs i d)) → map seen (set rs i x) ≡ update_at (map seen rs) i f
 update_set [] i x d f h e = absurd (omega arith)
@@ -39,22 +39,24 @@ least_set f [] i k x d h e = absurd (omega arith)
 least_set f (r ∷ rs) zero k x d h e = omega arith
 least_set f (r ∷ rs) (suc i) k x d h e = omega (arith, least_set f rs i k x d (omega arith) e)
 
--- where each count has room, the least has
-pub least_all : (f : Record → ℕ) (rs : List Record) → ((i : ℕ) (d : Record) → i < length rs → 0 < f (get_or rs i d)) → 0 < least f rs
-least_all f [] h = omega arith
-least_all f (r ∷ rs) h = omega (arith, h 0 r (omega arith), least_all f rs (λ i d l. h (suc i) d (omega arith)))
+-- where each count is at least so much, the least is
+pub least_all : (f : Record → ℕ) (n : ℕ) (rs : List Record) → n ≤ 8 → ((i : ℕ) (d : Record) → i < length rs → n ≤ f (get_or rs i d)) → n ≤ least f rs
+least_all f n [] low h = omega (arith, low)
+least_all f n (r ∷ rs) low h = omega (arith, h 0 r (omega arith), least_all f n rs low (λ i d l. h (suc i) d (omega arith)))
 
 pub taken_is : (st : State) (x : Option Command) (a : Option LogAnswer) (rs : List Recorded) → records_taken st x a rs ≡ taken_at (take_place st x) a rs
 taken_is st None a rs = refl
-taken_is st (Some (Send q c payload wait)) a rs = refl
+taken_is st (Some (Send q c payload wait notify)) a rs = refl
 taken_is st (Some (Release q c number)) a rs = refl
-taken_is st (Some (Take q c)) None rs = refl
-taken_is st (Some (Take q c)) (Some (SendAnswered a)) rs = refl
-taken_is st (Some (Take q c)) (Some (ReleaseAnswered a)) rs = refl
-taken_is st (Some (Take q c)) (Some (TakeAnswered (Taken number body))) rs = refl
-taken_is st (Some (Take q c)) (Some (TakeAnswered (Empty put))) rs = refl
-taken_is st (Some (Take q c)) (Some (TakeAnswered (Disconnecting r))) rs = refl
-taken_is st (Some (Take q c)) (Some (TakeAnswered NotConnected)) rs = refl
+taken_is st (Some (Drain q c)) a rs = refl
+taken_is st (Some (Take q c wait)) None rs = refl
+taken_is st (Some (Take q c wait)) (Some (SendAnswered a)) rs = refl
+taken_is st (Some (Take q c wait)) (Some (ReleaseAnswered a)) rs = refl
+taken_is st (Some (Take q c wait)) (Some (DrainAnswered a)) rs = refl
+taken_is st (Some (Take q c wait)) (Some (TakeAnswered (Taken number body))) rs = refl
+taken_is st (Some (Take q c wait)) (Some (TakeAnswered (Empty put))) rs = refl
+taken_is st (Some (Take q c wait)) (Some (TakeAnswered (Disconnecting r))) rs = refl
+taken_is st (Some (Take q c wait)) (Some (TakeAnswered NotConnected)) rs = refl
 
 -- the same of an element that was read
 pub read_set : (rs : List Record) (i : ℕ) (x y : Record) (f : Recorded → Recorded) → i < length rs → y ≡ get_or rs i y → seen x ≡ f (seen y) → map seen (set rs i x) ≡ update_at (map seen rs) i f
@@ -63,19 +65,50 @@ read_set rs i x y f h e s = update_set rs i x y f h (s ∙ ap (λ (z : Record). 
 pub read_same : (rs : List Record) (i : ℕ) (x y : Record) → i < length rs → y ≡ get_or rs i y → seen x ≡ seen y → map seen (set rs i x) ≡ map seen rs
 read_same rs i x y h e s = same_set rs i x y h (s ∙ ap seen e)
 
-pub read_least : (f : Record → ℕ) (rs : List Record) (i k : ℕ) (x y : Record) → i < length rs → y ≡ get_or rs i y → f y ≤ f x + k → least f rs ≤ least f (set rs i x) + k
+read_least : (f : Record → ℕ) (rs : List Record) (i k : ℕ) (x y : Record) → i < length rs → y ≡ get_or rs i y → f y ≤ f x + k → least f rs ≤ least f (set rs i x) + k
 read_least f rs i k x y h e s = let g : f y ≡ f (get_or rs i y) = ap f e in least_set f rs i k x y h (omega (arith, g, s))
+
+-- the room of all falls as that of one does
+pub read_falls : (rs : List Record) (i : ℕ) (x y : Record) (a t k d : ℕ) → i < length rs → y ≡ get_or rs i y → RoomFalls y x a t k d → Falls rs (set rs i x) a t k d
+read_falls rs i x y a t k d h e r = record {
+  accepted = read_least accepted_room rs i a x y h e r.accepted;
+  taken = read_least taken_room rs i t x y h e r.taken;
+  asked = read_least asked_room rs i k x y h e r.asked;
+  delivered = read_least delivered_room rs i d x y h e r.delivered;
+}
+
+pub stays : (rs : List Record) (a t k d : ℕ) → Falls rs rs a t k d
+stays rs a t k d = record { accepted = omega arith; taken = omega arith; asked = omega arith; delivered = omega arith }
+
+pub falls_on : (xs ys zs : List Record) (a t k d : ℕ) → Falls xs ys 0 0 0 0 → Falls ys zs a t k d → Falls xs zs a t k d
+falls_on xs ys zs a t k d f g = record { accepted = omega (arith, f.accepted, g.accepted); taken = omega (arith, f.taken, g.taken); asked = omega (arith, f.asked, g.asked); delivered = omega (arith, f.delivered, g.delivered) }
 
 pub read_room : (f : Record → ℕ) (rs : List Record) (i : ℕ) (y : Record) → i < length rs → y ≡ get_or rs i y → 0 < least f rs → 0 < f y
 read_room f rs i y h e s = let g : f y ≡ f (get_or rs i y) = ap f e in omega (arith, g, s, least_at f rs i y h)
 
-room_by : (f : Record → ℕ) (rs : List Record) (i : ℕ) (x : Record) → i < length rs → ((k : ℕ) (d : Record) → k < i → 0 < f (get_or rs k d)) → 0 < f x → (k : ℕ) (d : Record) → k < i + 1 → (k ≡ i) ⊎ (k ≡ i → ⊥) → 0 < f (get_or (set rs i x) k d)
-room_by f rs i x h each r k d l (inl e) = let P : Record → Type 0 = λ y. 0 < f y in subst P (sym (ap (λ (j : ℕ). get_or (set rs i x) j d) e ∙ get_or-set_same rs i x d h)) r
-room_by f rs i x h each r k d l (inr n) = let P : Record → Type 0 = λ y. 0 < f y in subst P (sym (get_or-set_other rs i k x d n)) (each k d (omega (arith, l, n)))
+-- a record has room for a turn
+pub record HasTurnRoom (r : Record) : Type 0 where
+  pub accepted : 1 ≤ accepted_room r
+  pub taken : 1 ≤ taken_room r
+  pub asked : 1 ≤ asked_room r
+  pub delivered : 8 ≤ delivered_room r
+
+room_by : (rs : List Record) (i : ℕ) (x : Record) → i < length rs → ((k : ℕ) (d : Record) → k < i → HasTurnRoom (get_or rs k d)) → HasTurnRoom x → (k : ℕ) (d : Record) → k < i + 1 → (k ≡ i) ⊎ (k ≡ i → ⊥) → HasTurnRoom (get_or (set rs i x) k d)
+room_by rs i x h each r k d l (inl e) = subst HasTurnRoom (sym (ap (λ (j : ℕ). get_or (set rs i x) j d) e ∙ get_or-set_same rs i x d h)) r
+room_by rs i x h each r k d l (inr n) = subst HasTurnRoom (sym (get_or-set_other rs i k x d n)) (each k d (omega (arith, l, n)))
 
 -- each record before one has room, and then that one too
-pub room_more : (f : Record → ℕ) (rs : List Record) (i : ℕ) (x : Record) → i < length rs → ((k : ℕ) (d : Record) → k < i → 0 < f (get_or rs k d)) → 0 < f x → (k : ℕ) (d : Record) → k < i + 1 → 0 < f (get_or (set rs i x) k d)
-room_more f rs i x h each r k d l = room_by f rs i x h each r k d l (cases_eq k i)
+pub room_more : (rs : List Record) (i : ℕ) (x : Record) → i < length rs → ((k : ℕ) (d : Record) → k < i → HasTurnRoom (get_or rs k d)) → HasTurnRoom x → (k : ℕ) (d : Record) → k < i + 1 → HasTurnRoom (get_or (set rs i x) k d)
+room_more rs i x h each r k d l = room_by rs i x h each r k d l (cases_eq k i)
+
+-- and then there is room in all
+pub room_all : (rs : List Record) → ((i : ℕ) (d : Record) → i < length rs → HasTurnRoom (get_or rs i d)) → 0 < records_room rs
+room_all rs each =
+    let a = least_all accepted_room 1 rs (omega arith) (λ i d l. (each i d l).accepted) in
+    let t = least_all taken_room 1 rs (omega arith) (λ i d l. (each i d l).taken) in
+    let k = least_all asked_room 1 rs (omega arith) (λ i d l. (each i d l).asked) in
+    let d = least_all delivered_room 8 rs (omega arith) (λ i d l. (each i d l).delivered) in
+    omega (arith, a, t, k, d)
 
 pub set_last : (log : List Entry) (i : ℕ) (y : Entry) (a : LogAnswer) → i + 1 ≡ length log → y ≡ get_or log i y → set log i (record y { answer = Some a }) ≡ last_answered log (Some a)
 set_last [] i y a h e = absurd (omega (arith, h))

@@ -1,28 +1,37 @@
 -- The steps that a node wants, and room for its counts.
-use Rattle.std.proofs.Common.{◌≡◌, ℕ, ◌+◌, ◌^◌, ◌<◌, ◌≤◌, Bool, true, false, List, length, refl, ap, sym, subst, arith, Option, Some, None}
-use Rattle.std.specs.Prelude.{IfSome}
+use Rattle.std.proofs.Common.{◌≡◌, ℕ, zero, suc, ◌+◌, ◌-◌, ◌^◌, ◌<◌, ◌≤◌, Bool, true, false, cond, List, length, slice_get, refl, ap, sym, ◌∙◌, subst, arith, Option, Some, None}
+use Rattle.std.specs.Prelude.{IfSome, IsSome}
 use Rattle.xp_base.specs.declared.step.OpKind.TheVariants.{Load}
 use Rattle.xp_base.specs.declared.step.Answer.{Answer}
 use Rattle.xp_base.specs.declared.step.Step.{Step}
+use Rattle.xp_base.specs.declared.link.LinkState.TheVariants.{Idle, Connected}
+use Rattle.xp_base.specs.History.{Noticed}
+use Rattle.xp_base.specs.declared.answer.TakeAnswer.{TakeAnswer}
+use Rattle.xp_rules.specs.declared.log.LogAnswer.{LogAnswer}
 use Rattle.xp_base.specs.Places.{Place, Open, Record, Flag, Args, Counter, Entry, Pool, Beyond, IsWithin, index_of}
 use Rattle.xp_rules.specs.declared.commands.Command.{Command}
+use Rattle.xp_rules.specs.declared.commands.Command.TheVariants.{Send, Take, Release, Drain}
 use Rattle.xp_rules.specs.declared.rule.RingRule.TheVariants.{ReadGet, WriteEntryWord, AcceptMessage}
 use Rattle.xp_rules.specs.declared.rule.Rule.{Rule}
-use Rattle.xp_rules.specs.declared.rule.Rule.TheVariants.{Ring, Pull, Acknowledge}
+use Rattle.xp_rules.specs.declared.rule.Rule.TheVariants.{Ring, Pull, Acknowledge, TakeFlags, SetFlag}
 use Rattle.xp_rules.specs.declared.setup.Setup.{Setup}
 use Rattle.xp_rules.specs.Setup.{IsLawfulSetup}
-use Rattle.xp_rules.specs.State.{State, start}
-use Rattle.xp_rules.specs.Rules.{Can, place, kind, mark_of, wanted_of, after_answer}
-use Rattle.xp_rules.specs.Acts.{after_acts, MayActs, begun_with, upcoming}
+use Rattle.xp_rules.specs.Pulling.{Pulling, found, found_by, take_refusal, taking_unless}
+use Rattle.xp_rules.specs.State.{State, End, start, end_of}
+use Rattle.xp_rules.specs.Rules.{Can, place, kind, mark_of, wanted_of, after_answer, partner_of}
+use Rattle.xp_rules.specs.Acts.{after_act, after_acts, MayActs, begun_with, upcoming, current, due, due_to, decided_or, decided_for, take_told, end_begun, end_named, end_noticed}
 use Rattle.xp_rules.specs.Runs.{state_after}
 use Rattle.xp_rules.proofs.Undo.{within, owner_low}
 use Rattle.xp_node.specs.declared.kept.Kept.{Kept}
 use Rattle.xp_node.specs.declared.turns.Made.{Made}
 use Rattle.xp_node.specs.declared.turns.Waiting.{Waiting}
-use Rattle.xp_node.specs.Held.{HasRoom, begun_acts}
+use Rattle.xp_node.specs.Held.{HasRoom, IsNoticed, AreConnected, IsUnshownAt, IsUnanswered, channel_of, begun_acts, noticed_acts}
 use Rattle.xp_node.specs.Node.{IsStep}
 use Rattle.xp_node.specs.Turns.{made_turns, waiting_for, Tie}
 use Rattle.xp_node.proofs.Bounds.{IsBounded, began_bounded, answered_bounded, room_of, kept_bounded}
+use Rattle.xp_node.proofs.Connected.{acts_connected, turns_warm}
+use Rattle.xp_duties.proofs.Ends.{set_here, stays_end}
+use Rattle.xp_node.proofs.Noticing.{began_noticed, turns_noticed}
 
 index_low : (pl : Place) → IsWithin pl → index_of pl < 5912
 index_low (Open o) h = omega arith
@@ -40,6 +49,8 @@ loads st (Ring q c (WriteEntryWord f)) = tt
 loads st (Ring q c AcceptMessage) = tt
 loads st (Pull q c m) = refl
 loads st (Acknowledge q c) = tt
+loads st (TakeFlags q) = tt
+loads st (SetFlag q c) = tt
 
 pub is_step : (s : Setup) (st : State) (r : Rule) → IsLawfulSetup s → Can s st r → IsStep s (wanted_of s st r)
 is_step s st r l h = record { owner = owner_low s st r l h; index = index_low (place s st r) (within s st r l h); load = loads st r }
@@ -56,22 +67,110 @@ pub few : (s : Setup) (old st : State) (b : Bool) → IsLawfulSetup s → st ≡
 few s old st true l e m t = let f : st.script.begun ≡ (begun_with old (upcoming s old)).script.begun = ap (λ (x : State). x.script.begun) e in omega (arith, f, begun_up old (upcoming s old), m.0.1, l.length)
 few s old st false l e m t = absurd (cc)
 
-bounded_by : (st st' : State) (f n k : ℕ) → st ≡ st' → IsBounded st' f n k → IsBounded st f n k
-bounded_by st st' f n k e h = subst (λ (x : State). IsBounded x f n k) (sym e) h
+bounded_by : (st st' : State) (n k : ℕ) → st ≡ st' → IsBounded st' n k → IsBounded st n k
+bounded_by st st' n k e h = subst (λ (x : State). IsBounded x n k) (sym e) h
 
-pub room_idle : (s : Setup) (st : State) (kept : Kept) (ms : List Made) (xs : List Step) (done : Bool) → Tie s st kept ms xs None done → length ms + 1 ≤ 2 ^ 63 → HasRoom st
-room_idle s st kept ms xs done t h = room_of st (length ms) (length ms) (length ms) (omega arith) (omega arith) (omega arith) (bounded_by st _ _ _ _ t.state (kept_bounded s ms xs))
+pub room_idle : (s : Setup) (st : State) (kept : Kept) (ms : List Made) (xs : List Step) (done : Bool) (place : ℕ) → Tie s st kept ms xs None done place → length ms + 1 ≤ 2 ^ 63 → HasRoom st
+room_idle s st kept ms xs done place t h = room_of st (length ms) (length ms) (omega arith) (omega arith) (bounded_by st _ _ _ t.state (kept_bounded s ms xs))
 
-pub room_began : (s : Setup) (st st1 : State) (kept : Kept) (ms : List Made) (xs : List Step) (done b : Bool) → Tie s st kept ms xs None done → length ms + 1 ≤ 2 ^ 63 → st1 ≡ after_acts s st (begun_acts b) → HasRoom st1
-room_began s st st1 kept ms xs done b t h e =
-    room_of st1 (length ms + 1) (length ms) (length ms) (omega arith) (omega arith) (omega arith) (bounded_by st1 _ _ _ _ e (began_bounded s st b (length ms) (length ms) (length ms) (bounded_by st _ _ _ _ t.state (kept_bounded s ms xs))))
+pub room_began : (s : Setup) (st st1 : State) (kept : Kept) (ms : List Made) (xs : List Step) (done b : Bool) (place : ℕ) → Tie s st kept ms xs None done place → length ms + 1 ≤ 2 ^ 63 → st1 ≡ after_acts s st (begun_acts b) → HasRoom st1
+room_began s st st1 kept ms xs done b place t h e =
+    room_of st1 (length ms) (length ms) (omega arith) (omega arith) (bounded_by st1 _ _ _ e (began_bounded s st b (length ms) (length ms) (bounded_by st _ _ _ t.state (kept_bounded s ms xs))))
 
-waits_bounded : (s : Setup) (st : State) (kept : Kept) (ms : List Made) (xs : List Step) (w : Waiting) (done : Bool) → Tie s st kept ms xs (Some w) done → IsBounded st (length ms + 1) (length ms) (length ms)
-waits_bounded s st kept ms xs w done t = bounded_by st _ _ _ _ t.state (began_bounded s (state_after s (start s) (made_turns s ms xs)) w.began (length ms) (length ms) (length ms) (kept_bounded s ms xs))
+waits_bounded : (s : Setup) (st : State) (kept : Kept) (ms : List Made) (xs : List Step) (w : Waiting) (done : Bool) (place : ℕ) → Tie s st kept ms xs (Some w) done place → IsBounded st (length ms) (length ms)
+waits_bounded s st kept ms xs w done place t = bounded_by st _ _ _ t.state (began_bounded s (state_after s (start s) (made_turns s ms xs)) w.began (length ms) (length ms) (kept_bounded s ms xs))
 
-pub room_waits : (s : Setup) (st : State) (kept : Kept) (ms : List Made) (xs : List Step) (w : Waiting) (done : Bool) → Tie s st kept ms xs (Some w) done → length ms + 1 ≤ 2 ^ 63 → HasRoom st
-room_waits s st kept ms xs w done t h = room_of st (length ms + 1) (length ms) (length ms) (omega arith) (omega arith) (omega arith) (waits_bounded s st kept ms xs w done t)
+pub room_waits : (s : Setup) (st : State) (kept : Kept) (ms : List Made) (xs : List Step) (w : Waiting) (done : Bool) (place : ℕ) → Tie s st kept ms xs (Some w) done place → length ms + 1 ≤ 2 ^ 63 → HasRoom st
+room_waits s st kept ms xs w done place t h = room_of st (length ms) (length ms) (omega arith) (omega arith) (waits_bounded s st kept ms xs w done place t)
 
-pub room_fed : (s : Setup) (st st2 : State) (kept : Kept) (ms : List Made) (xs : List Step) (w : Waiting) (done : Bool) (r : Rule) (a : Answer) → Tie s st kept ms xs (Some w) done → length ms + 1 ≤ 2 ^ 63 → st2 ≡ after_answer st r a → HasRoom st2
-room_fed s st st2 kept ms xs w done r a t h e =
-    room_of st2 (length ms + 1) (length ms + 1) (length ms) (omega arith) (omega arith) (omega arith) (bounded_by st2 _ _ _ _ e (answered_bounded st r a (length ms + 1) (length ms) (length ms) (waits_bounded s st kept ms xs w done t)))
+pub room_fed : (s : Setup) (st st2 : State) (kept : Kept) (ms : List Made) (xs : List Step) (w : Waiting) (done : Bool) (place : ℕ) (r : Rule) (a : Answer) → Tie s st kept ms xs (Some w) done place → length ms + 1 ≤ 2 ^ 63 → st2 ≡ after_answer st r a → HasRoom st2
+room_fed s st st2 kept ms xs w done place r a t h e =
+    room_of st2 (length ms + 1) (length ms) (omega arith) (omega arith) (bounded_by st2 _ _ _ e (answered_bounded st r a (length ms) (length ms) (waits_bounded s st kept ms xs w done place t)))
+
+-- no notice is due before a turn's step
+pub noticed_idle : (s : Setup) (st : State) (kept : Kept) (ms : List Made) (xs : List Step) (done : Bool) (place : ℕ) → Tie s st kept ms xs None done place → IsNoticed st
+noticed_idle s st kept ms xs done place t = subst (λ (x : State). IsNoticed x) (sym t.state) (turns_noticed s (made_turns s ms xs) t.runs)
+
+pub noticed_waits : (s : Setup) (st : State) (kept : Kept) (ms : List Made) (xs : List Step) (w : Waiting) (done : Bool) (place : ℕ) → Tie s st kept ms xs (Some w) done place → IsNoticed st
+noticed_waits s st kept ms xs w done place t = subst (λ (x : State). IsNoticed x) (sym t.state) (began_noticed s (state_after s (start s) (made_turns s ms xs)) w.began (turns_noticed s (made_turns s ms xs) t.runs))
+
+-- each link's end is connected
+pub connected_began : (s : Setup) (st st1 : State) (kept : Kept) (ms : List Made) (xs : List Step) (done b : Bool) (place : ℕ) → Tie s st kept ms xs None done place → st1 ≡ after_acts s st (begun_acts b) → AreConnected s st1
+connected_began s st st1 kept ms xs done b place t e =
+    subst (λ (x : State). AreConnected s x) (sym e) (acts_connected s st (begun_acts b) (subst (λ (x : State). AreConnected s x) (sym t.state) (turns_warm s (made_turns s ms xs) t.lawful)))
+
+-- notices leave the room
+act_room : (s : Setup) (st : State) (k d : ℕ) → HasRoom st → HasRoom (after_act s st (Noticed k d))
+act_room s st k d h = record {
+  counters = h.counters;
+  get = h.get;
+  entries = h.entries;
+  ends = λ q c.
+      let put = stays_end (λ (x : End). x.send.put) st.ends k d (end_noticed (end_of st k d)) q c refl in
+      let taken = stays_end (λ (x : End). x.pull.taken) st.ends k d (end_noticed (end_of st k d)) q c refl in
+      record { put = omega (arith, put, (h.ends q c).put); taken = omega (arith, taken, (h.ends q c).taken) };
+}
+
+pub room_noticed : (s : Setup) (st : State) (k d n : ℕ) → HasRoom st → HasRoom (after_acts s st (noticed_acts k d n))
+room_noticed s st k d zero h = h
+room_noticed s st k d (suc n) h = room_noticed s (after_act s st (Noticed k d)) k d n (act_room s st k d h)
+
+pub can_low : (s : Setup) (st : State) (r : Rule) → IsLawfulSetup s → Can s st r → (partner_of r < 8) × (channel_of r < 4)
+can_low s st (Ring q c m) l h = (omega (arith, h.0.peer.0, l.count), h.0.peer.2)
+can_low s st (Pull q c m) l h = (omega (arith, h.0.peer.0, l.count), h.0.peer.2)
+can_low s st (Acknowledge q c) l h = (omega (arith, h.0.peer.0, l.count), h.0.peer.2)
+can_low s st (TakeFlags q) l h = (omega (arith, h.low, l.count), omega arith)
+can_low s st (SetFlag q c) l h = (omega (arith, h.0.peer.0, l.count), h.0.peer.2)
+
+-- the take in progress wasn't shown an empty queue: else its answer was given
+found_none : (n : ℕ) (o : Option ℕ) (cache : List (List ℕ)) → found n o cache ≡ None → o ≡ None
+found_none n None cache e = refl
+found_none n (Some put) cache e = absurd (cc)
+
+undue_take : (o : Option TakeAnswer) → take_told o ≡ None → o ≡ None
+undue_take None e = refl
+undue_take (Some a) e = absurd (cc)
+
+unshown_by : (o : Option Bool) (p : Pulling) → take_told (found_by o p) ≡ None → IsSome o → p.empty ≡ None
+unshown_by None p e h = absurd (cc)
+unshown_by (Some wait) p e h = found_none p.taken p.empty p.cache (undue_take (found p.taken p.empty p.cache) e)
+
+unshown_at : (st : State) (o : Option Command) → due_to st o ≡ None → IsUnshownAt st o
+unshown_at st None e = tt
+unshown_at st (Some (Send q c payload wait notify)) e = λ w. tt
+unshown_at st (Some (Take q c wait)) e = λ w h. unshown_by (end_of st q c).pull.take (end_of st q c).pull e h
+unshown_at st (Some (Release q c number)) e = λ w. tt
+unshown_at st (Some (Drain q c)) e = λ w. tt
+
+later_none : (b : Bool) (d later : Option LogAnswer) → b ≡ true → d ≡ None → cond b (decided_or d later) None ≡ None → later ≡ None
+later_none true None later e f g = g
+later_none true (Some a) later e f g = absurd (cc)
+later_none false d later e f g = absurd (cc)
+
+warm_by : (b : Bool) → take_told (take_refusal (cond b Connected Idle)) ≡ None → b ≡ true
+warm_by true e = refl
+warm_by false e = absurd (cc)
+
+begun_empty : (b wait : Bool) (p : Pulling) → b ≡ true → (taking_unless (take_refusal (cond b Connected Idle)) wait p).empty ≡ None
+begun_empty true wait p e = refl
+begun_empty false wait p e = absurd (cc)
+
+unshown_begun : (st : State) (x : Command) → decided_for (end_named st x) x ≡ None → IsUnshownAt (begun_with st (Some x)) (Some x)
+unshown_begun st (Send q c payload wait notify) d = λ w. tt
+unshown_begun st (Take q c wait) d = λ w h.
+    let e = end_of st q c in
+    let warm = warm_by e.warm d in
+    ap (λ (y : End). y.pull.empty) (set_here st.ends q c (end_begun e (Take q c wait)) warm) ∙ begun_empty e.warm wait e.pull warm
+unshown_begun st (Release q c number) d = λ w. tt
+unshown_begun st (Drain q c) d = λ w. tt
+
+begun_unanswered : (s : Setup) (st : State) (o : Option Command) → upcoming s st ≡ o → st.script.doing ≡ false → IsUnanswered s (begun_with st o)
+begun_unanswered s st None e f = λ d u. absurd (cc)
+begun_unanswered s st (Some x) e f = λ d u.
+    let k : st.script.begun + 1 - 1 ≡ st.script.begun = omega arith in
+    let now : slice_get s.script (st.script.begun + 1 - 1) ≡ Some x = ap (λ (n : ℕ). slice_get s.script n) k ∙ e in
+    subst (λ (o : Option Command). IsUnshownAt (begun_with st (Some x)) o) (sym now) (unshown_begun st x u)
+
+pub unanswered : (s : Setup) (st st1 : State) (kept : Kept) (ms : List Made) (xs : List Step) (done b : Bool) (place : ℕ) → Tie s st kept ms xs None done place → st1 ≡ after_acts s st (begun_acts b) → MayActs s st (begun_acts b) → IsUnanswered s st1
+unanswered s st st1 kept ms xs done true place t e m = subst (λ (x : State). IsUnanswered s x) (sym e) (begun_unanswered s st (upcoming s st) refl m.0.0)
+unanswered s st st1 kept ms xs done false place t e m = subst (λ (x : State). IsUnanswered s x) (sym e) (λ d u. unshown_at st (current s st) (later_none st.script.doing st.script.decided (due_to st (current s st)) d u (ap (λ (x : State). due s x) t.state ∙ t.settled)))

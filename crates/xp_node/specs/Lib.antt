@@ -1,9 +1,6 @@
-pub mod Pull
 pub mod End
 pub mod Held
 pub mod Kept
-pub mod Plan
-pub mod Diligent
 pub mod Turns
 pub mod Node
 pub mod NodeInside

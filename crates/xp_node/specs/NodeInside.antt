@@ -12,4 +12,4 @@ abbrev pub view_of : Inside → NodeView
 view_of n = record { setup = n.setup; turns = made_turns n.setup n.made.items n.steps.items; waiting = waiting_for n.setup n.held n.waiting; room = room_in n }
 
 abbrev pub IsTied : Inside → Type 0
-IsTied n = Tie n.setup n.held n.kept n.made.items n.steps.items n.waiting n.done
+IsTied n = Tie n.setup n.held n.kept n.made.items n.steps.items n.waiting n.done n.place

@@ -1,27 +1,29 @@
-// One end of a channel: its sending side, its receiving side and what it released.
-ghost use Rattle.std.specs.Prelude.{◌≡◌, ℕ, ◌<◌, ◌≤◌, ◌+◌, ◌-◌, ◌^◌, false, ◌↔◌, if◌then◌else◌, length, IfSome, IsSome, Some, None};
+// One end of a channel: its sending side, its receiving side, what it released, and the notices that it owes.
+ghost use Rattle.std.specs.Prelude.{◌≡◌, ℕ, ◌<◌, ◌≤◌, ◌+◌, ◌-◌, ◌^◌, true, false, ◌↔◌, ◌||◌, if◌then◌else◌, length, IfSome, IsSome, is_some, Some, None};
 ghost use Rattle.xp_base.specs.Places.{index_of};
 ghost use Rattle.xp_rules.specs.Setup.{IsSize};
-ghost use Rattle.xp_rules.specs.Sending.{ring_can, ring_after, ring_own, ring_place, ring_kind, ring_mark, payload_of};
-ghost use Rattle.xp_rules.specs.Pulling.{pull_can, pull_fault, pull_failed, pull_place, pull_word};
+ghost use Rattle.xp_rules.specs.Sending.{ring_can, ring_own, ring_place, ring_kind, ring_mark, payload_of};
+ghost use Rattle.xp_rules.specs.Pulling.{pull_can, pull_fault, pull_failed, pull_place, pull_word, take_due, take_refusal, take_begun};
 ghost use Rattle.xp_rules.specs.State.{idle_end, warm_end, link_of};
-ghost use Rattle.xp_rules.specs.Rules.{pull_mark, end_pulled};
-ghost use Rattle.xp_rules.specs.Runs.{owes_get};
-ghost use Rattle.xp_rules.specs.Acts.{refusal_of, refusal_of_send, refusal_of_release, end_begun, end_sending, end_releasing};
+ghost use Rattle.xp_rules.specs.Rules.{pull_mark, beside_of, end_sent, end_pulled, end_acknowledged, owes_after, wants_notice};
+ghost use Rattle.xp_rules.specs.Flags.{is_requested, end_requested};
+ghost use Rattle.xp_rules.specs.Runs.{owes_get, owes};
+ghost use Rattle.xp_rules.specs.Acts.{decided_for, refusal_of_send, drain_refusal, end_begun, end_sending, end_releasing, release_told, end_answered, drained, notice_due, end_noticed};
+ghost use Rattle.xp_rules.specs.Releasing.{release_refusal};
 ghost use Rattle.xp_ring.specs.Side.{side_plan, told};
-ghost use Rattle.xp_node.specs.Pull.{Fits, IsTake};
-ghost use Rattle.xp_node.specs.End.{IsShort, HasEndRoom, IsEndTake, numbered};
-ghost use Rattle.xp_node.specs.Plan.{pull_plan};
+ghost use Rattle.xp_duties.specs.Plan.{take_step};
+ghost use Rattle.xp_node.specs.End.{IsShort, HasEndRoom, IsUnshown, numbered, asked_by};
 
-use crate::pulling::Puller;
 use std::marker::Model;
-use xp_base::answer::{ReleaseAnswer, SendAnswer, TakeAnswer};
+use xp_ack::notices::Notices;
+use xp_ack::side::AckSide;
+use xp_base::answer::{DrainAnswer, SendAnswer, TakeAnswer};
 use xp_base::body::Body;
 use xp_base::ids::{Channel, PartId};
 use xp_base::link::LinkState;
-use xp_base::places::{counters, entry};
 use xp_base::reason::Reason;
-use xp_base::step::{CopyKind, CopyMark, Op, OpKind, Wanted};
+use xp_base::step::{CopyKind, CopyMark, Wanted};
+use xp_pull::side::PullSide;
 use xp_ring::side::SendSide;
 use xp_rules::commands::Command;
 use xp_rules::copies::Copies;
@@ -37,13 +39,18 @@ pub struct LinkEnd {
     /// Which record of the node it has.
     record_number: usize,
     send: SendSide,
-    pull: Puller,
-    /// All numbers below were released.
-    front: u64,
+    /// Whether the send in progress asks for a notice.
+    notify: bool,
+    pull: PullSide,
+    ack: AckSide,
+    /// The numbers whose delivery is to be told.
+    asked: Notices,
     /// The last get that was stored.
     stored: u64,
     /// Whether a release waits for the store of get.
     releasing: bool,
+    /// Whether a message request is owed.
+    owes_message: bool,
     /// The numbers of the copies that go on.
     counters_copy: u64,
     entries_copy: u64,
@@ -51,10 +58,13 @@ pub struct LinkEnd {
 
 impl Model for LinkEnd {
     ghost use Rattle.xp_rules.specs.State.{End};
+    ghost use Rattle.xp_node.specs.End.{IsSound};
 
     ghost Value = { End };
 
-    ghost view = { λ e. record { warm = e.warm; record_number = e.record_number; send = e.send; pull = e.pull; front = e.front; stored = e.stored; releasing = e.releasing; counters_copy = e.counters_copy; entries_copy = e.entries_copy } };
+    ghost view = { λ e. record { warm = e.warm; record_number = e.record_number; send = e.send; pull = e.pull; ack = e.ack; asked = e.asked; stored = e.stored; releasing = e.releasing; owes_message = e.owes_message; counters_copy = e.counters_copy; entries_copy = e.entries_copy } };
+
+    ghost invariant = { λ e. IsSound e.send e.pull e.ack e.asked e.notify };
 }
 
 impl LinkEnd {
@@ -62,14 +72,19 @@ impl LinkEnd {
     pub fn idle() -> LinkEnd
         ensures { result ≡ idle_end }
     {
+        let part = PartId::known(0);
+        let channel = Channel::known(0);
         LinkEnd {
             warm: false,
             record_number: 0,
-            send: SendSide::new(PartId::known(0), PartId::known(0), Channel::known(0), 1, 0),
-            pull: Puller::new(1, 0),
-            front: 0,
+            send: SendSide::new(part, part, channel, 1, 0),
+            notify: false,
+            pull: PullSide::new(part, part, channel, 1, 0),
+            ack: AckSide::new(),
+            asked: Notices::new(),
             stored: 0,
             releasing: false,
+            owes_message: false,
             counters_copy: 0,
             entries_copy: 0,
         }
@@ -84,10 +99,13 @@ impl LinkEnd {
             warm: true,
             record_number,
             send: SendSide::new(part, link.partner, link.channel, link.entries, link.limit),
-            pull: Puller::new(link.entries, link.limit),
-            front: 0,
+            notify: false,
+            pull: PullSide::new(part, link.partner, link.channel, link.entries, link.limit),
+            ack: AckSide::new(),
+            asked: Notices::new(),
             stored: 0,
             releasing: false,
+            owes_message: false,
             counters_copy: 0,
             entries_copy: 0,
         }
@@ -107,16 +125,48 @@ impl LinkEnd {
 
     /// All numbers below it were released.
     pub fn front(&self) -> u64
-        ensures { result ≡ self.now.front }
+        ensures { result ≡ self.now.ack.front }
     {
-        self.front
+        self.ack.front()
     }
 
     /// Whether a store of get is owed.
     pub fn owes_get(&self) -> bool
         ensures { result ≡ owes_get self.now }
     {
-        self.warm && self.stored < self.front
+        self.warm && self.stored < self.ack.front()
+    }
+
+    /// Whether a message request is owed.
+    pub fn owes_message(&self) -> bool
+        ensures { result ≡ self.now.owes_message }
+    {
+        self.owes_message
+    }
+
+    /// Whether a step is owed: a store of get, or a message request.
+    pub fn owes(&self) -> bool
+        ensures { result ≡ owes self.now }
+    {
+        self.owes_get() || self.owes_message
+    }
+
+    /// Whether a copy of the counters goes on, or is owed.
+    pub fn wants_counters(&self) -> bool
+        ensures { result ≡ is_some self.now.pull.counters || self.now.pull.owed }
+    {
+        self.pull.wants_counters()
+    }
+
+    /// The answer of a drain in progress, where it is due.
+    pub fn drained(&self) -> Option<LogAnswer>
+        ensures { result ≡ drained self.now }
+    {
+        if self.warm && self.send.known_get() == self.send.put() {
+            Some(LogAnswer::Drain(DrainAnswer::Ok))
+        } else {
+            None
+        }
     }
 
     /// The message of the send in progress.
@@ -127,55 +177,113 @@ impl LinkEnd {
         self.send.body()
     }
 
-    /// Begins a command to this end; the answer, where it is refused.
-    pub fn begin(&mut self, command: &Command) -> Option<LogAnswer>
-        requires room { HasEndRoom self.old }
-        requires payload { IsShort command.now }
-        ensures answer { result ≡ refusal_of self.old command.now }
-        ensures end { self.new ≡ end_begun self.old command.now }
+    /// The number of the message of the send in progress, where it asks for a notice.
+    pub fn asks(&self) -> Option<u64>
+        requires { IsSome self.now.send.send }
+        ensures { result ≡ (if wants_notice self.now.send.send then Some self.now.send.put else None) }
     {
-        match command {
-            Command::Send { payload, wait, .. } => self.begin_send(payload.bytes(), *wait),
-            Command::Take { .. } => {
-                if self.warm {
-                    None
-                } else {
-                    Some(LogAnswer::Take(TakeAnswer::NotConnected))
-                }
-            }
-            Command::Release { number, .. } => self.begin_release(*number),
+        if self.notify {
+            Some(self.send.put())
+        } else {
+            None
         }
     }
 
-    fn begin_send(&mut self, payload: &[u8], wait: bool) -> Option<LogAnswer>
+    /// How many notices are owed.
+    pub fn asked(&self) -> u8
+        ensures value { result ≡ length self.now.asked }
+        ensures range { result ≤ 8 }
+    {
+        self.asked.len()
+    }
+
+    // The state of the link.
+    fn state(&self) -> LinkState
+        ensures { result ≡ link_of self.now }
+    {
+        if self.warm {
+            LinkState::Connected
+        } else {
+            LinkState::Idle
+        }
+    }
+}
+
+impl LinkEnd {
+    /// Begins a command to this end; the answer, where that is decided at once.
+    pub fn begin(&mut self, command: &Command) -> Option<LogAnswer>
+        requires room { HasEndRoom self.old }
+        requires payload { IsShort command.now }
+        ensures answer { result ≡ decided_for self.old command.now }
+        ensures end { self.new ≡ end_begun self.old command.now }
+    {
+        match command {
+            Command::Send {
+                payload,
+                wait,
+                notify,
+                ..
+            } => self.begin_send(payload.bytes(), *wait, *notify),
+            Command::Take { wait, .. } => match self.begin_take(*wait) {
+                Some(answer) => Some(LogAnswer::Take(answer)),
+                None => None,
+            },
+            Command::Release { number, .. } => self.begin_release(*number),
+            Command::Drain { .. } => self.begin_drain(),
+        }
+    }
+
+    fn begin_send(&mut self, payload: &[u8], wait: bool, notify: bool) -> Option<LogAnswer>
         requires room { HasEndRoom self.old }
         requires payload { length payload.now ≤ 4096 }
         ensures answer { result ≡ refusal_of_send self.old payload.now }
-        ensures end { self.new ≡ end_sending self.old payload.now wait }
+        ensures end { self.new ≡ end_sending self.old payload.now wait notify }
     {
         if !self.warm {
             return Some(LogAnswer::Send(SendAnswer::NotConnected));
         }
-        match self.send.begin(LinkState::Connected, payload, wait, false) {
+        match self.send.begin(LinkState::Connected, payload, wait, notify) {
             Some(answer) => Some(LogAnswer::Send(answer)),
-            None => None,
+            None => {
+                self.notify = notify;
+                None
+            }
         }
     }
 
+    fn begin_take(&mut self, wait: bool) -> Option<TakeAnswer>
+        ensures answer { result ≡ take_refusal (link_of self.old) }
+        ensures end { self.new ≡ record self.old { pull = take_begun (link_of self.old) wait self.old.pull } }
+    {
+        let state = self.state();
+        self.pull.start(state, wait)
+    }
+
+    // A release takes place at once; where it moves the front, its answer waits for the store of get.
     fn begin_release(&mut self, number: u64) -> Option<LogAnswer>
-        requires room { HasEndRoom self.old }
-        ensures answer { result ≡ refusal_of_release self.old number }
+        ensures answer { result ≡ release_told (release_refusal (link_of self.old) number self.old.ack) number self.old.ack }
         ensures end { self.new ≡ end_releasing self.old number }
     {
-        if !self.warm {
-            return Some(LogAnswer::Release(ReleaseAnswer::NotConnected));
+        let state = self.state();
+        let front = self.ack.front();
+        let answer = self.ack.release(state, number);
+        self.releasing = self.ack.front() != front;
+        if self.releasing {
+            None
+        } else {
+            Some(LogAnswer::Release(answer))
         }
-        if number != self.front || number >= self.pull.taken() {
-            return Some(LogAnswer::Release(ReleaseAnswer::NotHeld));
+    }
+
+    // A drain is refused where there is no connection, and else waits.
+    fn begin_drain(&self) -> Option<LogAnswer>
+        ensures { result ≡ drain_refusal (link_of self.now) }
+    {
+        if self.warm {
+            None
+        } else {
+            Some(LogAnswer::Drain(DrainAnswer::NotConnected))
         }
-        self.front += 1;
-        self.releasing = true;
-        None
     }
 
     /// The next step of the send in progress.
@@ -187,13 +295,20 @@ impl LinkEnd {
         self.send.plan()
     }
 
-    /// The next step of a take in progress.
+    /// The next step for a take, unless its answer is due: the next word of an entry where one is there, and else the counters.
     pub fn plan_take(&self) -> Option<PullRule>
-        ensures value { result ≡ pull_plan self.now.pull }
-        ensures can { IfSome result (λ rule. pull_can self.now.pull rule × Fits self.now.pull rule) }
-        ensures none { result ≡ None → length self.now.pull.cache ≡ 1 }
+        requires { IsUnshown self.now.pull }
+        ensures value { result ≡ (if is_some (take_due self.now.pull) then None else Some (take_step self.now.pull)) }
+        ensures can { IfSome result (λ rule. pull_can self.now.pull rule) }
     {
-        self.pull.plan()
+        if self.pull.is_taking() && self.pull.taken() < self.pull.pulled() {
+            return None;
+        }
+        if self.pull.pulled() < self.pull.pulled_put() {
+            Some(PullRule::ReadEntry)
+        } else {
+            Some(PullRule::ReadCounters)
+        }
     }
 
     /// The step of a rule of the sending side.
@@ -234,34 +349,63 @@ impl LinkEnd {
         requires { pull_can self.now.pull rule }
         ensures { result ≡ index_of (pull_place part channel self.now.pull rule) }
     {
-        let word = self.pull.word(rule);
-        match rule {
-            PullRule::ReadCounters => counters(part, channel, word),
-            PullRule::ReadEntry => entry(part, channel, self.pull.slot(), word),
-        }
+        self.pull.index(part, channel, rule)
     }
+}
 
-    /// Takes the word that a step of the sending side was answered.
+impl LinkEnd {
+    /// Takes the word that a step of the sending side was answered. The number of a message that is accepted is asked for, where its
+    /// send asks for a notice.
     pub fn ring(&mut self, rule: RingRule, word: u64) -> Result<Option<SendAnswer>, Reason>
         requires can { ring_can self.old.send rule }
         requires room { HasEndRoom self.old }
-        ensures end { self.new ≡ record self.old { send = ring_after self.old.send rule word } }
+        requires noticed { notice_due self.old ≡ None }
+        ensures end { self.new ≡ end_sent rule word self.old }
         ensures told { result ≡ told self.old.send rule word }
     {
-        self.send.apply(rule, word)
+        let asked = self.asked_by(rule);
+        self.owes_message = owes_after(rule, self.owes_message);
+        let told = self.send.apply(rule, word);
+        if let Some(number) = asked {
+            self.asked.ask(number);
+        }
+        told
     }
 
-    /// Takes the word that a step of the receiving side was answered, whose copy has this number.
+    // The number that is asked for by a step.
+    fn asked_by(&self, rule: RingRule) -> Option<u64>
+        requires { ring_can self.now.send rule }
+        ensures { result ≡ asked_by self.now.send rule }
+    {
+        match rule {
+            RingRule::AcceptMessage => self.asks(),
+            RingRule::ReadGet | RingRule::WriteEntryWord(_) => None,
+        }
+    }
+
+    /// Takes the word that a step of the receiving side was answered, whose copy has this number. A get is heard by the sending side too.
     pub fn pull(&mut self, number: u64, rule: PullRule, word: u64) -> Option<Reason>
-        requires can { pull_can self.old.pull rule }
-        requires fits { Fits self.old.pull rule }
-        requires room { HasEndRoom self.old }
+        requires { pull_can self.old.pull rule }
         ensures end { self.new ≡ end_pulled rule word (numbered number rule self.old) }
-        ensures fault { result ≡ pull_fault self.old.send self.old.front self.old.pull rule word }
+        ensures fault { result ≡ pull_fault (beside_of self.old) self.old.pull rule word }
     {
         self.number_copy(number, rule);
-        let front = self.front;
-        self.pull.apply(&mut self.send, front, rule, word)
+        self.hear(rule, word)
+    }
+
+    fn hear(&mut self, rule: PullRule, word: u64) -> Option<Reason>
+        requires { pull_can self.old.pull rule }
+        ensures end { self.new ≡ end_pulled rule word self.old }
+        ensures fault { result ≡ pull_fault (beside_of self.old) self.old.pull rule word }
+    {
+        let hears_get = matches!(rule, PullRule::ReadCounters) && self.pull.word(rule) == 0;
+        let known = self.send.known_get();
+        let put = self.send.put();
+        let fault = self.pull.apply(known, put, self.ack.front(), rule, word);
+        if hears_get && fault.is_none() {
+            self.send.know(word);
+        }
+        fault
     }
 
     /// A load of the receiving side failed, whose copy has this number.
@@ -281,22 +425,74 @@ impl LinkEnd {
         }
     }
 
-    /// Get was stored; whether a release waited for it.
+    /// Get was stored, of which the partner is to be told; whether a release waited for it.
     pub fn acknowledge(&mut self) -> bool
-        ensures end { self.new ≡ record self.old { stored = self.old.front; releasing = false } }
+        ensures end { self.new ≡ end_acknowledged self.old }
         ensures waited { result ≡ self.old.releasing }
     {
         let waited = self.releasing;
-        self.stored = self.front;
+        self.stored = self.ack.front();
         self.releasing = false;
+        self.owes_message = true;
         waited
     }
 
-    /// Takes the message that is cached, with its number.
-    pub fn take(&mut self) -> Option<(u64, Body)>
-        requires { HasEndRoom self.old }
-        ensures { IsEndTake self.old self.new result }
+    /// The partner was told by a message request.
+    pub fn partner_told(&mut self)
+        ensures { self.new ≡ record self.old { owes_message = false } }
     {
-        self.pull.take()
+        self.owes_message = false;
     }
+
+    /// Takes the partner's message request on this channel: a copy of the counters is owed, where the end is connected.
+    pub fn request(&mut self, word: u64, channel: u8)
+        requires { channel < 4 }
+        ensures { self.new ≡ end_requested word channel self.old }
+    {
+        if self.warm && is_requested(word, channel) {
+            self.pull.pull();
+        }
+    }
+
+    /// The answer of the take in progress, where it is due; a message that is taken is held until it is released.
+    pub fn answer(&mut self) -> Option<TakeAnswer>
+        requires { HasEndRoom self.old }
+        ensures value { result ≡ take_due self.old.pull }
+        ensures end { self.new ≡ (if is_some result then end_answered self.old else self.old) }
+    {
+        let number = self.pull.taken();
+        let answer = self.pull.answer()?;
+        if let TakeAnswer::Taken { .. } = &answer {
+            self.ack.taken(number);
+        }
+        Some(answer)
+    }
+
+    /// The lowest number whose delivery is to be told, which is told once.
+    pub fn notice(&mut self) -> Option<u64>
+        ensures value { result ≡ notice_due self.old }
+        ensures end { self.new ≡ (if is_some result then end_noticed self.old else self.old) }
+    {
+        let known = self.send.known_get();
+        let notice = self.asked.acked(known)?;
+        Some(notice.number)
+    }
+}
+
+// Whether a message request is owed after a step of the sending side.
+fn owes_after(rule: RingRule, owes: bool) -> bool
+    ensures { result ≡ owes_after rule owes }
+{
+    match rule {
+        RingRule::AcceptMessage => true,
+        RingRule::ReadGet | RingRule::WriteEntryWord(_) => owes,
+    }
+}
+
+// Whether a flag word has the message request of a channel.
+fn is_requested(word: u64, channel: u8) -> bool
+    requires { channel < 4 }
+    ensures { result ≡ is_requested word channel }
+{
+    (word >> (8 * channel + 5)) % 2 == 1
 }

@@ -1,11 +1,11 @@
 //! One partition: its machines, and its turns so far.
 #![tactic(auto)]
 
-pub mod copied;
 pub mod end;
+pub mod ends;
 pub mod held;
 pub mod kept;
 pub mod node;
-pub mod pulling;
-pub mod setting;
+pub mod planning;
+pub mod telling;
 pub mod turns;

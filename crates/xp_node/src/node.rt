@@ -1,17 +1,18 @@
 // A node: one partition, its turns so far and the step that waits for its answer.
-ghost use Rattle.std.specs.Prelude.{◌≡◌, ℕ, ◌<◌, ◌≤◌, ◌+◌, ◌-◌, [], ◌∷◌, ◌++◌, length, true, false, Some, None, IfSome, IfNone, IfOk, IsSome, MatchOption, OnOk, map, slice_get, vec_len, vec_capacity};
+ghost use Rattle.std.specs.Prelude.{◌≡◌, ℕ, ◌<◌, ◌≤◌, ◌+◌, ◌-◌, ◌*◌, [], ◌∷◌, ◌++◌, length, true, false, Some, None, IfSome, IfNone, IfOk, IsSome, MatchOption, OnOk, map, slice_get, vec_len, vec_capacity};
 ghost use Rattle.xp_rules.specs.Setup.{IsLawfulSetup, fails_at, is_among};
 ghost use Rattle.xp_rules.specs.Records.{seen};
 ghost use Rattle.xp_rules.specs.Scenario.{IsLawful, setup_of};
 ghost use Rattle.xp_rules.specs.Runs.{Runs, is_done, is_failed};
 ghost use Rattle.xp_rules.specs.Windows.{Windows};
 ghost use Rattle.xp_rules.specs.State.{start};
-ghost use Rattle.xp_node.specs.Diligent.{AreDiligent};
+ghost use Rattle.xp_duties.specs.Diligent.{AreDiligent};
+ghost use Rattle.xp_node.specs.Turns.{next_place};
 ghost use Rattle.xp_node.specs.Node.{IsEnded, ended_by, state_of, log_of, steps_of, answered_by, MakesTurn, IsStep};
 
 use crate::held::Held;
-use crate::kept::{Kept, answer_next, note_step};
-use crate::setting::setup_for;
+use crate::kept::Kept;
+use crate::telling::{answer_next, note_begun, note_step, tell};
 use crate::turns::{Ended, Made, Waiting};
 use std::alloc::{AllocError, Global};
 use std::marker::Model;
@@ -21,6 +22,7 @@ use xp_rules::log::Entry;
 use xp_rules::records::Record;
 use xp_rules::scenario::Scenario;
 use xp_rules::setup::Setup;
+use xp_script::setting::setup_for;
 
 /// One partition: its part of the scenario and its turns. Contracts see these, the step that waits, and for how many turns there is room.
 #[derive(Drop)]
@@ -32,6 +34,8 @@ pub struct Node {
     steps: Vec<Step>,
     waiting: Option<Waiting>,
     done: bool,
+    /// Where the next turn stands in the circle in which the links are served.
+    place: u16,
 }
 
 impl Model for Node {
@@ -76,6 +80,7 @@ impl Node {
             steps: Vec::new(alloc),
             waiting: None,
             done,
+            place: 0,
         })
     }
 
@@ -101,24 +106,26 @@ impl Node {
         ensures windows { Windows self.new.setup self.new.turns }
     {
         let began = self.held.begin_next(&self.setup);
-        match self.held.plan(&self.setup) {
+        match self.held.plan(&self.setup, self.place) {
             Some(rule) => {
                 let wanted = self.held.wanted(&self.setup, rule);
                 self.waiting = Some(Waiting { rule, began });
                 Some(wanted)
             }
             None => {
-                self.kept.note_begun(&self.setup, &self.held, began);
+                note_begun(&self.setup, &self.held, began, &mut self.kept);
                 let answered = answer_next(&self.setup, &mut self.held, &mut self.kept);
                 keep(
                     &mut self.made,
                     Made {
                         began,
                         rule: None,
+                        noticed: 0,
                         answered,
                     },
                 );
                 self.done = self.held.is_done(&self.setup);
+                self.place = place_after(&self.setup, self.place);
                 None
             }
         }
@@ -137,10 +144,10 @@ impl Node {
         };
         let rule = waiting.rule;
         let wanted = self.held.wanted(&self.setup, rule);
-        self.kept.note_begun(&self.setup, &self.held, waiting.began);
+        note_begun(&self.setup, &self.held, waiting.began, &mut self.kept);
         note_step(&self.held, rule, &answer, &mut self.kept.records);
         self.held.apply(&self.setup, rule, answer);
-        let answered = answer_next(&self.setup, &mut self.held, &mut self.kept);
+        let told = tell(&self.setup, &mut self.held, &mut self.kept, rule);
         keep(
             &mut self.steps,
             Step {
@@ -153,11 +160,13 @@ impl Node {
             Made {
                 began: waiting.began,
                 rule: Some(rule),
-                answered,
+                noticed: told.noticed,
+                answered: told.answered,
             },
         );
         self.waiting = None;
         self.done = self.held.is_done(&self.setup);
+        self.place = place_after(&self.setup, self.place);
     }
 
     /// How the partition has ended, where it has.
@@ -172,7 +181,7 @@ impl Node {
     pub fn turns(&self) -> u64
         ensures count { result ≡ length self.now.turns }
         ensures runs { Runs self.now.setup self.now.turns }
-        ensures diligent { AreDiligent self.now.setup (start self.now.setup) self.now.turns }
+        ensures diligent { AreDiligent self.now.setup 0 (start self.now.setup) self.now.turns }
         ensures windows { Windows self.now.setup self.now.turns }
     {
         let _ = &self.held;
@@ -245,6 +254,20 @@ impl Node {
         } else {
             None
         }
+    }
+}
+
+// The place in the circle that comes next. It stays where there are no links.
+fn place_after(setup: &Setup, place: u16) -> u16
+    requires lawful { IsLawfulSetup setup.now }
+    requires low { place ≤ 8 * length setup.now.links }
+    ensures { result ≡ next_place setup.now place }
+{
+    let next = place + 1;
+    if (next as usize) < 8 * setup.links.as_slice().len() {
+        next
+    } else {
+        0
     }
 }
 

@@ -1,11 +1,20 @@
 // What is kept of a turn, and how a partition ends.
 use xp_rules::rule::Rule;
 
-/// What is kept of a turn: whether it began a command, the rule of its step where it made one, and whether it answered a command.
+/// What is kept of a turn: whether it began a command, the rule of its step where it made one, how many notices it gave at the end of
+/// that step, and whether it answered a command.
 #[derive(Clone, Copy, Debug, PartialEq, Eq)]
 pub struct Made {
     pub began: bool,
     pub rule: Option<Rule>,
+    pub noticed: u8,
+    pub answered: bool,
+}
+
+/// What a turn told after its step: how many notices, and whether it answered a command.
+#[derive(Clone, Copy, Debug, PartialEq, Eq)]
+pub struct Told {
+    pub noticed: u8,
     pub answered: bool,
 }
 

@@ -1,8 +1,11 @@
-use Rattle.std.proofs.Common.{◌<◌, length, ◌∙◌, arith}
+use Rattle.std.proofs.Common.{◌<◌, length, ◌∙◌, refl, arith}
 use Rattle.std.proofs.Math.ListN.{length-set}
-use Rattle.xp_rules.specs.Records.{accepted_room, taken_room}
-use Rattle.xp_node.proofs.RecordLemmas.{read_same, read_least, room_more, least_all}
+use Rattle.xp_node.specs.Kept.{RoomFalls}
+use Rattle.xp_node.proofs.RecordLemmas.{read_same, read_falls, stays, falls_on, room_more, room_all}
 use Rattle.xp_node.proofs.kept.reserve_records.Goals as goal
+
+pub loop-i-init : goal.loop-i-init
+loop-i-init c = record { same = refl; count = refl; more = stays _ 0 0 0 0; roomy = λ k d l. absurd (omega (arith, l)) }
 
 pub loop-i-preserved : goal.loop-i-preserved
 loop-i-preserved c =
@@ -12,15 +15,12 @@ loop-i-preserved c =
     let x = c.reserve.new.self in
     let e = c.index_mut-record.ensures.value in
     let h : i < length rs = omega (arith, c.loop-i-test.true, c.loop-i.invariant.count, c.len-i-end.ensures, c.args.records.now.ok.0) in
-    let a = read_least accepted_room rs i 0 x y h e (omega (arith, c.reserve.ensures.accepted_kept)) in
-    let t = read_least taken_room rs i 0 x y h e (omega (arith, c.reserve.ensures.taken_kept)) in
+    let f : RoomFalls y x 0 0 0 0 = record { accepted = omega (arith, c.reserve.ensures.accepted_kept); taken = omega (arith, c.reserve.ensures.taken_kept); asked = omega (arith, c.reserve.ensures.asked_kept); delivered = omega (arith, c.reserve.ensures.delivered_kept) } in
     record {
       same = read_same rs i x y h e c.reserve.ensures.seen ∙ c.loop-i.invariant.same;
       count = length-set rs i x ∙ c.loop-i.invariant.count;
-      accepted = omega (arith, a, c.loop-i.invariant.accepted);
-      taken = omega (arith, t, c.loop-i.invariant.taken);
-      has_accepted = room_more accepted_room rs i x h c.loop-i.invariant.has_accepted c.in_ok-reserve.ensures.accepted;
-      has_taken = room_more taken_room rs i x h c.loop-i.invariant.has_taken c.in_ok-reserve.ensures.taken;
+      more = falls_on _ rs _ 0 0 0 0 c.loop-i.invariant.more (read_falls rs i x y 0 0 0 0 h e f);
+      roomy = room_more rs i x h c.loop-i.invariant.roomy (record { accepted = omega (arith, c.in_ok-reserve.ensures.accepted); taken = omega (arith, c.in_ok-reserve.ensures.taken); asked = omega (arith, c.in_ok-reserve.ensures.asked); delivered = c.in_ok-reserve.ensures.delivered });
     }
 
 pub returns-in_err-reserve-clause-same : goal.returns-in_err-reserve-clause-same
@@ -28,20 +28,11 @@ returns-in_err-reserve-clause-same c =
     let h : c.loop-i.i < length c.loop-i.records.items = omega (arith, c.loop-i-test.true, c.loop-i.invariant.count, c.len-i-end.ensures, c.args.records.now.ok.0) in
     read_same c.loop-i.records.items c.loop-i.i c.reserve.new.self c.index_mut-record.result.now h c.index_mut-record.ensures.value c.reserve.ensures.seen ∙ c.loop-i.invariant.same
 
-pub returns-in_err-reserve-clause-more_accepted : goal.returns-in_err-reserve-clause-more_accepted
-returns-in_err-reserve-clause-more_accepted c =
+pub returns-in_err-reserve-clause-more : goal.returns-in_err-reserve-clause-more
+returns-in_err-reserve-clause-more c =
     let h : c.loop-i.i < length c.loop-i.records.items = omega (arith, c.loop-i-test.true, c.loop-i.invariant.count, c.len-i-end.ensures, c.args.records.now.ok.0) in
-    let a = read_least accepted_room c.loop-i.records.items c.loop-i.i 0 c.reserve.new.self c.index_mut-record.result.now h c.index_mut-record.ensures.value (omega (arith, c.reserve.ensures.accepted_kept)) in
-    omega (arith, a, c.loop-i.invariant.accepted)
+    let f : RoomFalls c.index_mut-record.result.now c.reserve.new.self 0 0 0 0 = record { accepted = omega (arith, c.reserve.ensures.accepted_kept); taken = omega (arith, c.reserve.ensures.taken_kept); asked = omega (arith, c.reserve.ensures.asked_kept); delivered = omega (arith, c.reserve.ensures.delivered_kept) } in
+    falls_on _ c.loop-i.records.items _ 0 0 0 0 c.loop-i.invariant.more (read_falls c.loop-i.records.items c.loop-i.i c.reserve.new.self c.index_mut-record.result.now 0 0 0 0 h c.index_mut-record.ensures.value f)
 
-pub returns-in_err-reserve-clause-more_taken : goal.returns-in_err-reserve-clause-more_taken
-returns-in_err-reserve-clause-more_taken c =
-    let h : c.loop-i.i < length c.loop-i.records.items = omega (arith, c.loop-i-test.true, c.loop-i.invariant.count, c.len-i-end.ensures, c.args.records.now.ok.0) in
-    let t = read_least taken_room c.loop-i.records.items c.loop-i.i 0 c.reserve.new.self c.index_mut-record.result.now h c.index_mut-record.ensures.value (omega (arith, c.reserve.ensures.taken_kept)) in
-    omega (arith, t, c.loop-i.invariant.taken)
-
-pub returns-clause-accepted : goal.returns-clause-accepted
-returns-clause-accepted c = least_all accepted_room c.loop-i.records.items (λ i d l. c.loop-i.invariant.has_accepted i d (omega (arith, l, c.loop-i-test.false, c.loop-i.invariant.count, c.len-i-end.ensures, c.args.records.now.ok.0)))
-
-pub returns-clause-taken : goal.returns-clause-taken
-returns-clause-taken c = least_all taken_room c.loop-i.records.items (λ i d l. c.loop-i.invariant.has_taken i d (omega (arith, l, c.loop-i-test.false, c.loop-i.invariant.count, c.len-i-end.ensures, c.args.records.now.ok.0)))
+pub returns-clause-ok : goal.returns-clause-ok
+returns-clause-ok c = room_all c.loop-i.records.items (λ i d l. c.loop-i.invariant.roomy i d (omega (arith, l, c.loop-i-test.false, c.loop-i.invariant.count, c.len-i-end.ensures, c.args.records.now.ok.0)))

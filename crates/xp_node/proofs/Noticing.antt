@@ -1,0 +1,164 @@
+-- Notices that are due are given at the end of the step, and then none is due anywhere.
+use Rattle.std.proofs.Common.{◌≡◌, ℕ, zero, suc, ◌+◌, Bool, true, false, cond, List, [], ◌∷◌, ◌++◌, get_or, replicate, refl, ap, sym, ◌∙◌, subst, inl, inr, ◌⊎◌, Option, Some, None}
+use Rattle.std.specs.Prelude.{IsSome}
+use Rattle.std.proofs.lemmas.Bool.{cases_eq}
+use Rattle.std.proofs.lemmas.List.{replicate-append-replicate}
+use Rattle.xp_base.specs.declared.answer.SendAnswer.{SendAnswer}
+use Rattle.xp_base.specs.declared.step.Answer.{Answer}
+use Rattle.xp_base.specs.declared.step.Answer.TheVariants.{Word, Failed}
+use Rattle.xp_base.specs.History.{Act, Noticed, Turn}
+use Rattle.xp_rules.specs.declared.commands.Command.{Command}
+use Rattle.xp_rules.specs.declared.commands.Command.TheVariants.{Send, Take, Release, Drain}
+use Rattle.xp_rules.specs.declared.log.LogAnswer.{LogAnswer}
+use Rattle.xp_rules.specs.declared.rule.Rule.{Rule}
+use Rattle.xp_rules.specs.declared.rule.Rule.TheVariants.{Ring, Pull, Acknowledge, TakeFlags, SetFlag}
+use Rattle.xp_rules.specs.declared.setup.Link.{Link}
+use Rattle.xp_rules.specs.declared.setup.Setup.{Setup}
+use Rattle.xp_rules.specs.Sending.{Send as Sendable, send_refusal, begun_unless}
+use Rattle.xp_rules.specs.Pulling.{Pulling, take_due}
+use Rattle.xp_rules.specs.State.{State, End, start, end_at, end_of, set_end, idle_end, warm_end, opened_ends, idle_ends, link_of}
+use Rattle.xp_rules.specs.Rules.{after_answer}
+use Rattle.xp_rules.specs.Acts.{MayActs, after_act, after_acts, begun_with, upcoming, current, due, due_to, decided_or, take_told, drained, notice_due, end_begun, end_noticed, end_answered, ends_answered, partner_named, channel_named}
+use Rattle.xp_rules.specs.Runs.{RunsFrom, after_turn, state_after}
+use Rattle.xp_rules.specs.Logged.{Logged, logged_act, logged_acts}
+use Rattle.xp_rules.specs.Windows.{answers}
+use Rattle.xp_rules.proofs.Slots.{at_end}
+use Rattle.xp_node.specs.Held.{IsNoticed, IsNoticedBut, IsNoticedAt, begun_acts, noticed_acts, answered_acts}
+use Rattle.xp_duties.proofs.Ends.{set_other, stays_end, at_flagged}
+
+-- acts, one after the other
+pub acts-append : (s : Setup) (st : State) (xs ys : List Act) → after_acts s st (xs ++ ys) ≡ after_acts s (after_acts s st xs) ys
+acts-append s st [] ys = refl
+acts-append s st (a ∷ xs) ys = acts-append s (after_act s st a) xs ys
+
+pub may-append : (s : Setup) (st : State) (xs ys : List Act) → MayActs s st xs → MayActs s (after_acts s st xs) ys → MayActs s st (xs ++ ys)
+may-append s st [] ys m n = n
+may-append s st (a ∷ xs) ys m n = (m.0, may-append s (after_act s st a) xs ys m.1 n)
+
+pub logged-append : (s : Setup) (st : State) (xs ys : List Act) (g : Logged) → logged_acts s st (xs ++ ys) g ≡ logged_acts s (after_acts s st xs) ys (logged_acts s st xs g)
+logged-append s st [] ys g = refl
+logged-append s st (a ∷ xs) ys g = logged-append s (after_act s st a) xs ys (logged_act s st a g)
+
+one_more : (q c n : ℕ) → noticed_acts q c (n + 1) ≡ noticed_acts q c n ++ Noticed q c ∷ []
+one_more q c n = sym (replicate-append-replicate n 1 (Noticed q c))
+
+-- one more notice
+pub more_state : (s : Setup) (st : State) (q c n : ℕ) → after_acts s st (noticed_acts q c (n + 1)) ≡ after_act s (after_acts s st (noticed_acts q c n)) (Noticed q c)
+more_state s st q c n = ap (λ (acts : List Act). after_acts s st acts) (one_more q c n) ∙ acts-append s st (noticed_acts q c n) (Noticed q c ∷ [])
+
+pub more_may : (s : Setup) (st : State) (q c n : ℕ) → MayActs s st (noticed_acts q c n) → IsSome (notice_due (end_of (after_acts s st (noticed_acts q c n)) q c)) → MayActs s st (noticed_acts q c (n + 1))
+more_may s st q c n m h = subst (λ (acts : List Act). MayActs s st acts) (sym (one_more q c n)) (may-append s st (noticed_acts q c n) (Noticed q c ∷ []) m (h, tt))
+
+pub more_logged : (s : Setup) (st : State) (q c n : ℕ) (g : Logged) → logged_acts s st (noticed_acts q c (n + 1)) g ≡ logged_act s (after_acts s st (noticed_acts q c n)) (Noticed q c) (logged_acts s st (noticed_acts q c n) g)
+more_logged s st q c n g = ap (λ (acts : List Act). logged_acts s st acts g) (one_more q c n) ∙ logged-append s st (noticed_acts q c n) (Noticed q c ∷ []) g
+
+pub answers_noticed : (q c n : ℕ) (acts : List Act) → answers (noticed_acts q c n ++ acts) ≡ answers acts
+answers_noticed q c zero acts = refl
+answers_noticed q c (suc n) acts = answers_noticed q c n acts
+
+-- a command's beginning and its answer leave what is due
+begun_send : (e : End) (b : Bool) (o : Option SendAnswer) (m : Sendable) → notice_due (cond b (record e { send = begun_unless o m e.send }) e) ≡ notice_due e
+begun_send e true None m = refl
+begun_send e true (Some a) m = refl
+begun_send e false o m = refl
+
+begun_due : (e : End) (x : Command) → notice_due (end_begun e x) ≡ notice_due e
+begun_due e (Send q c payload wait notify) = begun_send e e.warm (send_refusal (link_of e) payload e.send) (record { payload = payload; wait = wait; notify = notify })
+begun_due e (Take q c wait) = refl
+begun_due e (Release q c number) = refl
+begun_due e (Drain q c) = refl
+
+begun_noticed : (st : State) (o : Option Command) → IsNoticed st → IsNoticed (begun_with st o)
+begun_noticed st None h = h
+begun_noticed st (Some x) h = λ q c. at_end (λ (y : End). notice_due y ≡ None) st.ends (partner_named x) (channel_named x) _ q c (λ e f. begun_due (end_of st (partner_named x) (channel_named x)) x ∙ h (partner_named x) (channel_named x)) (h q c)
+
+pub began_noticed : (s : Setup) (st : State) (b : Bool) → IsNoticed st → IsNoticed (after_acts s st (begun_acts b))
+began_noticed s st true h = begun_noticed st (upcoming s st) h
+began_noticed s st false h = h
+
+ends_noticed : (st : State) (o : Option Command) (a : Option LogAnswer) → IsNoticed st → (q c : ℕ) → notice_due (end_at (ends_answered st o a) q c) ≡ None
+ends_noticed st (Some (Take k d wait)) None h q c = at_end (λ (y : End). notice_due y ≡ None) st.ends k d (end_answered (end_of st k d)) q c (λ e f. h k d) (h q c)
+ends_noticed st (Some (Take k d wait)) (Some a) h q c = h q c
+ends_noticed st (Some (Send k d payload wait notify)) a h q c = h q c
+ends_noticed st (Some (Release k d number)) a h q c = h q c
+ends_noticed st (Some (Drain k d)) a h q c = h q c
+ends_noticed st None a h q c = h q c
+
+pub answered_noticed : (s : Setup) (st : State) (b : Bool) → IsNoticed st → IsNoticed (after_acts s st (answered_acts b))
+answered_noticed s st true h = λ q c. ends_noticed st (current s st) st.script.decided h q c
+answered_noticed s st false h = h
+
+-- a step makes notices due at its own end alone, and a partner's flags make none due
+pub step_noticed : (st : State) (r : Rule) (a : Answer) → IsNoticed st → IsNoticedAt (after_answer st r a) r
+step_noticed st (Ring k d m) (Word w) h = λ q c n. ap (λ (y : End). notice_due y) (set_other st.ends k d _ q c n) ∙ h q c
+step_noticed st (Pull k d m) (Word w) h = λ q c n. ap (λ (y : End). notice_due y) (set_other st.ends k d _ q c n) ∙ h q c
+step_noticed st (Acknowledge k d) (Word w) h = λ q c n. ap (λ (y : End). notice_due y) (set_other st.ends k d _ q c n) ∙ h q c
+step_noticed st (TakeFlags k) (Word w) h = λ q c. at_flagged (λ (y : End). notice_due y ≡ None) w st.ends k q c (λ on. h q c) (h q c)
+step_noticed st (SetFlag k d) (Word w) h = λ q c n. ap (λ (y : End). notice_due y) (set_other st.ends k d _ q c n) ∙ h q c
+step_noticed st (Ring k d m) Failed h = λ q c n. h q c
+step_noticed st (Pull k d m) Failed h = λ q c n. ap (λ (y : End). notice_due y) (set_other st.ends k d _ q c n) ∙ h q c
+step_noticed st (Acknowledge k d) Failed h = λ q c n. h q c
+step_noticed st (TakeFlags k) Failed h = λ q c. h q c
+step_noticed st (SetFlag k d) Failed h = λ q c n. h q c
+
+noticed_but : (s : Setup) (st : State) (k d n : ℕ) → IsNoticedBut k d st → IsNoticedBut k d (after_acts s st (noticed_acts k d n))
+noticed_but s st k d zero h = h
+noticed_but s st k d (suc n) h = noticed_but s (after_act s st (Noticed k d)) k d n (λ q c m. ap (λ (y : End). notice_due y) (set_other st.ends k d (end_noticed (end_of st k d)) q c m) ∙ h q c m)
+
+all_noticed : (st : State) (k d : ℕ) → IsNoticedBut k d st → notice_due (end_of st k d) ≡ None → IsNoticed st
+all_noticed st k d h here = λ q c. by q c (cases_eq q k) (cases_eq c d) where
+  by : (q c : ℕ) → (q ≡ k) ⊎ (q ≡ k → ⊥) → (c ≡ d) ⊎ (c ≡ d → ⊥) → notice_due (end_of st q c) ≡ None
+  by q c (inl e) (inl f) = ap (λ (n : ℕ). notice_due (end_of st n c)) e ∙ ap (λ (n : ℕ). notice_due (end_of st k n)) f ∙ here
+  by q c (inr n) j = h q c (λ e f. n e)
+  by q c (inl e) (inr n) = h q c (λ g f. n f)
+
+-- after the notices of a step none is due
+pub told_noticed : (s : Setup) (st : State) (k d n : ℕ) → IsNoticedBut k d st → notice_due (end_of (after_acts s st (noticed_acts k d n)) k d) ≡ None → IsNoticed (after_acts s st (noticed_acts k d n))
+told_noticed s st k d n h here = all_noticed (after_acts s st (noticed_acts k d n)) k d (noticed_but s st k d n h) here
+
+-- notices leave the answer that is due
+due_by : (st st' : State) (o : Option Command) → ((q c : ℕ) → (end_of st' q c).pull ≡ (end_of st q c).pull) → ((q c : ℕ) → drained (end_of st' q c) ≡ drained (end_of st q c)) → due_to st' o ≡ due_to st o
+due_by st st' None h k = refl
+due_by st st' (Some (Send q c payload wait notify)) h k = refl
+due_by st st' (Some (Take q c wait)) h k = ap (λ (p : Pulling). take_told (take_due p)) (h q c)
+due_by st st' (Some (Release q c number)) h k = refl
+due_by st st' (Some (Drain q c)) h k = k q c
+
+pub due_after : (s : Setup) (st : State) (k d : ℕ) → due s (after_act s st (Noticed k d)) ≡ due s st
+due_after s st k d =
+    let x = end_noticed (end_of st k d) in
+    let e = due_by st (after_act s st (Noticed k d)) (current s st) (λ q c. stays_end (λ (y : End). y.pull) st.ends k d x q c refl) (λ q c. stays_end (λ (y : End). drained y) st.ends k d x q c refl) in
+    ap (λ (o : Option LogAnswer). cond st.script.doing (decided_or st.script.decided o) None) e
+
+pub due_noticed : (s : Setup) (st : State) (k d n : ℕ) → due s (after_acts s st (noticed_acts k d n)) ≡ due s st
+due_noticed s st k d zero = refl
+due_noticed s st k d (suc n) = due_noticed s (after_act s st (Noticed k d)) k d n ∙ due_after s st k d
+
+-- at the opening none is due, and so it is between turns
+row_idle : (n c : ℕ) → notice_due (get_or (replicate n idle_end) c idle_end) ≡ None
+row_idle zero c = refl
+row_idle (suc n) zero = refl
+row_idle (suc n) (suc c) = row_idle n c
+
+rows_idle : (n q c : ℕ) → notice_due (get_or (get_or (replicate n (replicate 4 idle_end)) q []) c idle_end) ≡ None
+rows_idle zero q c = refl
+rows_idle (suc n) zero c = row_idle 4 c
+rows_idle (suc n) (suc q) c = rows_idle n q c
+
+all_idle : (q c : ℕ) → notice_due (end_at idle_ends q c) ≡ None
+unfolding idle_ends
+all_idle q c = rows_idle 8 q c
+
+opened : (part n : ℕ) (ls : List Link) (ends : List (List End)) → ((q c : ℕ) → notice_due (end_at ends q c) ≡ None) → (q c : ℕ) → notice_due (end_at (opened_ends part n ls ends) q c) ≡ None
+opened part n [] ends each = each
+opened part n (l ∷ ls) ends each = opened part (n + 1) ls (set_end ends l.partner l.channel (warm_end part n l)) (λ q c. at_end (λ (y : End). notice_due y ≡ None) ends l.partner l.channel (warm_end part n l) q c (λ e f. refl) (each q c))
+
+start_noticed : (s : Setup) → IsNoticed (start s)
+start_noticed s = opened s.part 0 s.links idle_ends all_idle
+
+between : (s : Setup) (st : State) (ts : List Turn) → RunsFrom s st ts → IsNoticed st → IsNoticed (state_after s st ts)
+between s st [] r h = h
+between s st (t ∷ ts) r h = between s (after_turn s st t) ts r.1 r.0.noticed
+
+pub turns_noticed : (s : Setup) (ts : List Turn) → RunsFrom s (start s) ts → IsNoticed (state_after s (start s) ts)
+turns_noticed s ts r = between s (start s) ts r (start_noticed s)
