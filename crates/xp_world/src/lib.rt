@@ -1,7 +1,6 @@
 //! The world of a scenario: all partitions and the words of their memories.
 #![tactic(auto)]
 
-pub mod opening;
 #[cfg(test)]
 mod tests;
 pub mod turning;

@@ -3,7 +3,6 @@ ghost use Rattle.std.specs.Prelude.{◌≡◌, ◌<◌, [], length, IfOk, OnOk, 
 ghost use Rattle.xp_rules.specs.Scenario.{IsLawful, one_round, some_rounds, written_lines};
 ghost use Rattle.xp_world.specs.World.{Reached, Replayed, KeepWindows, AreNew, IsReady, WorldTurns, IsSameWorld, StaysReached, StaysPromised, TakeTurns};
 
-use crate::opening::opening_words;
 use crate::turning::turn_node;
 use std::alloc::{AllocError, Global};
 use xp_base::ids::PartId;
@@ -11,6 +10,7 @@ use xp_base::words::Words;
 use xp_laws::promises::promises_kept;
 use xp_node::node::Node;
 use xp_rules::scenario::{Scenario, Schedule};
+use xp_script::opening::opening;
 
 /// The partitions of a scenario and the words of their memories.
 #[derive(Drop)]
@@ -27,7 +27,7 @@ impl World {
         ensures ready { IfOk result (λ world. IsReady world) }
     {
         Ok(World {
-            words: opening_words(alloc, scenario)?,
+            words: opening(alloc, scenario)?,
             nodes: new_nodes(alloc, scenario)?,
         })
     }

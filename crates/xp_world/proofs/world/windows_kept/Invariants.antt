@@ -1,4 +1,4 @@
-use Rattle.std.proofs.Common.{◌≡◌, take}
+use Rattle.std.proofs.Common.{take}
 use Rattle.xp_world.specs.World.{KeepWindows}
 use Rattle.xp_world.proofs.world.windows_kept.Given as goal
 

@@ -1,6 +1,6 @@
 use Rattle.std.proofs.Common.{ℕ, List, [], refl, subst}
 use Rattle.xp_rules.specs.Scenario.{written_lines, written}
-use Rattle.xp_world.specs.World.{Reaches, TakeTurns, KeepWindows, Replayed}
+use Rattle.xp_world.specs.World.{Reaches, TakeTurns, KeepWindows}
 use Rattle.xp_node.specs.Node.{NodeView}
 use Rattle.xp_world.proofs.Worlds.{reaches_turns}
 use Rattle.xp_world.proofs.world.World.replay.Goals as goal
