@@ -8,12 +8,14 @@ use Rattle.xp_base.specs.declared.answer.TakeAnswer.{TakeAnswer}
 use Rattle.xp_base.specs.declared.answer.TakeAnswer.TheVariants.{Taken, Empty, Disconnecting as TakeDisconnecting, NotConnected as TakeNotConnected}
 use Rattle.xp_base.specs.declared.answer.ReleaseAnswer.{ReleaseAnswer}
 use Rattle.xp_base.specs.declared.answer.ReleaseAnswer.TheVariants.{Ok as ReleaseOk, NotHeld, NotConnected as ReleaseNotConnected}
+use Rattle.xp_base.specs.declared.answer.DrainAnswer.{DrainAnswer}
+use Rattle.xp_base.specs.declared.answer.DrainAnswer.TheVariants.{Ok as DrainOk, Disconnecting as DrainDisconnecting, NotConnected as DrainNotConnected}
 use Rattle.xp_base.specs.Reasons.{reason_text}
 use Rattle.xp_base.specs.Show.{◌⧺◌, payload_text}
 use Rattle.xp_rules.specs.declared.log.Verb.{Verb}
-use Rattle.xp_rules.specs.declared.log.Verb.TheVariants.{Send as SendVerb, Take as TakeVerb, Release as ReleaseVerb}
+use Rattle.xp_rules.specs.declared.log.Verb.TheVariants.{Send as SendVerb, Take as TakeVerb, Release as ReleaseVerb, Drain as DrainVerb}
 use Rattle.xp_rules.specs.declared.log.LogAnswer.{LogAnswer}
-use Rattle.xp_rules.specs.declared.log.LogAnswer.TheVariants.{Send as SendAnswered, Take as TakeAnswered, Release as ReleaseAnswered}
+use Rattle.xp_rules.specs.declared.log.LogAnswer.TheVariants.{Send as SendAnswered, Take as TakeAnswered, Release as ReleaseAnswered, Drain as DrainAnswered}
 use Rattle.xp_rules.specs.declared.log.Entry.{Entry}
 use Rattle.xp_rules.specs.Records.{Recorded}
 use Rattle.xp_rules.specs.Runs.{is_done}
@@ -29,6 +31,7 @@ abbrev pub verb_text : Verb → List ℕ
 verb_text SendVerb = codes "send"
 verb_text TakeVerb = codes "take"
 verb_text ReleaseVerb = codes "release"
+verb_text DrainVerb = codes "drain"
 
 unfoldable pub send_text : SendAnswer → List ℕ
 send_text (SendOk number) = codes "ok " ⧺ decimal number
@@ -51,12 +54,18 @@ release_text (ReleaseOk front) = codes "ok " ⧺ decimal front
 release_text NotHeld = codes "not-held"
 release_text ReleaseNotConnected = codes "not-connected"
 
+unfoldable pub drain_text : DrainAnswer → List ℕ
+drain_text DrainOk = codes "ok"
+drain_text (DrainDisconnecting reason) = codes "disconnecting " ⧺ reason_text reason
+drain_text DrainNotConnected = codes "not-connected"
+
 -- the answer of a command, where it has one
 abbrev pub answer_text : Option LogAnswer → List ℕ
 answer_text None = codes "unanswered"
 answer_text (Some (SendAnswered answer)) = send_text answer
 answer_text (Some (TakeAnswered answer)) = take_text answer
 answer_text (Some (ReleaseAnswered answer)) = release_text answer
+answer_text (Some (DrainAnswered answer)) = drain_text answer
 
 -- the boot, the number in its script, and the word of a command
 unfoldable pub command_text : ℕ → ℕ → Verb → List ℕ
@@ -73,8 +82,9 @@ entries_text (e ∷ more) = entry_text e ⧺ entries_text more
 unfoldable pub connection_text : Recorded → List ℕ
 connection_text r = decimal r.partner ⧺ codes " " ⧺ decimal r.channel ⧺ codes " epoch " ⧺ decimal r.epoch ⧺ codes " own " ⧺ decimal r.own.stamp ⧺ codes "." ⧺ decimal r.own.count ⧺ codes " partner " ⧺ decimal r.theirs.stamp ⧺ codes "." ⧺ decimal r.theirs.count
 
+-- what came of it: the messages accepted and taken, the last get, and the messages whose delivery was told; none ends untold yet
 unfoldable pub counts_text : Recorded → List ℕ
-counts_text r = codes " accepted " ⧺ decimal (length r.accepted) ⧺ codes " taken " ⧺ decimal (length r.taken) ⧺ codes " acked " ⧺ decimal r.acked ⧺ codes " delivered 0 ended 0" ⧺ line_end
+counts_text r = codes " accepted " ⧺ decimal (length r.accepted) ⧺ codes " taken " ⧺ decimal (length r.taken) ⧺ codes " acked " ⧺ decimal r.acked ⧺ codes " delivered " ⧺ decimal (length r.delivered) ⧺ codes " ended 0" ⧺ line_end
 
 -- a connection that was connected
 unfoldable pub link_text : Recorded → List ℕ

@@ -31,9 +31,10 @@ fn write_counts(out: &mut String, connection: &Record) -> Result<(), AllocError>
     let accepted = connection.accepted.len();
     let taken = connection.taken.len();
     let acked = connection.acked;
+    let delivered = connection.delivered.len();
     writeln!(
         out,
-        " accepted {accepted} taken {taken} acked {acked} delivered 0 ended 0"
+        " accepted {accepted} taken {taken} acked {acked} delivered {delivered} ended 0"
     )
 }
 

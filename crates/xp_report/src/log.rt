@@ -1,9 +1,9 @@
 // The lines of the commands that were begun.
 ghost use Rattle.std.specs.Prelude.{◌≡◌, ◌++◌, OnOk, string_bytes};
-ghost use Rattle.xp_report.specs.Report.{verb_text, send_text, taken_text, take_text, release_text, answer_text, command_text, entry_text, entries_text};
+ghost use Rattle.xp_report.specs.Report.{verb_text, send_text, taken_text, take_text, release_text, drain_text, answer_text, command_text, entry_text, entries_text};
 
 use std::alloc::AllocError;
-use xp_base::answer::{ReleaseAnswer, SendAnswer, TakeAnswer};
+use xp_base::answer::{DrainAnswer, ReleaseAnswer, SendAnswer, TakeAnswer};
 use xp_base::body::Body;
 use xp_base::show::write_payload;
 use xp_rules::log::{Entry, LogAnswer, Verb};
@@ -15,6 +15,7 @@ fn verb_name(verb: Verb) -> &'static str
         Verb::Send => "send",
         Verb::Take => "take",
         Verb::Release => "release",
+        Verb::Drain => "drain",
     }
 }
 
@@ -61,6 +62,17 @@ fn write_release_answer(out: &mut String, answer: &ReleaseAnswer) -> Result<(), 
     }
 }
 
+#[tactic(auto, unfolding(crate::specs::Report::drain_text))]
+fn write_drain_answer(out: &mut String, answer: &DrainAnswer) -> Result<(), AllocError>
+    ensures { OnOk result (string_bytes out.new ≡ string_bytes out.old ++ drain_text answer.now) }
+{
+    match answer {
+        DrainAnswer::Ok => write!(out, "ok"),
+        DrainAnswer::Disconnecting { reason } => write!(out, "disconnecting {reason}"),
+        DrainAnswer::NotConnected => write!(out, "not-connected"),
+    }
+}
+
 fn write_answer(out: &mut String, answer: &Option<LogAnswer>) -> Result<(), AllocError>
     ensures { OnOk result (string_bytes out.new ≡ string_bytes out.old ++ answer_text answer.now) }
 {
@@ -69,6 +81,7 @@ fn write_answer(out: &mut String, answer: &Option<LogAnswer>) -> Result<(), Allo
         Some(LogAnswer::Send(answer)) => write_send_answer(out, answer),
         Some(LogAnswer::Take(answer)) => write_take_answer(out, answer),
         Some(LogAnswer::Release(answer)) => write_release_answer(out, answer),
+        Some(LogAnswer::Drain(answer)) => write_drain_answer(out, answer),
     }
 }
 

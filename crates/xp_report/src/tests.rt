@@ -3,9 +3,9 @@ use crate::head::write_head;
 use crate::links::write_records;
 use crate::log::write_entries;
 use crate::text::report;
-use std::alloc::Global;
+use std::alloc::{AllocError, Global};
 use std::test::Fail;
-use xp_base::answer::{ReleaseAnswer, SendAnswer, TakeAnswer};
+use xp_base::answer::{DrainAnswer, ReleaseAnswer, SendAnswer, TakeAnswer};
 use xp_base::body::Body;
 use xp_base::ids::{Channel, PartId};
 use xp_base::reason::Reason;
@@ -61,6 +61,10 @@ fn took(number: u32, answer: TakeAnswer) -> Entry {
 
 fn released(number: u32, answer: ReleaseAnswer) -> Entry {
     entry(2, number, Verb::Release, Some(LogAnswer::Release(answer)))
+}
+
+fn drained(number: u32, answer: DrainAnswer) -> Entry {
+    entry(2, number, Verb::Drain, Some(LogAnswer::Drain(answer)))
 }
 
 #[test]
@@ -133,6 +137,28 @@ fn entries(rt: HostRuntime) -> Result<(), Fail> {
     Ok(())
 }
 
+#[test]
+fn drains(rt: HostRuntime) -> Result<(), Fail> {
+    let reason = Reason::PartnerClosed { code: 3 };
+    let entries = vec![in rt.alloc();
+        drained(1, DrainAnswer::Ok),
+        drained(2, DrainAnswer::Disconnecting { reason }),
+        drained(3, DrainAnswer::NotConnected),
+        entry(2, 4, Verb::Drain, None),
+    ]?;
+    let mut text = String::new(rt.alloc());
+    write_entries(&mut text, &entries)?;
+    assert_eq!(rt;
+        text.as_str(),
+        "  2 1 drain ok
+  2 2 drain disconnecting partner-closed 3
+  2 3 drain not-connected
+  2 4 drain unanswered
+"
+    );
+    Ok(())
+}
+
 /// A record of a connection that opened connected, with some messages.
 fn record(
     alloc: Global,
@@ -160,12 +186,25 @@ fn record(
     Ok(record)
 }
 
+/// Asks for the delivery of these numbers, and tells that of the first ones.
+fn tell(record: &mut Record, asked: &[u64], told: usize) -> Result<(), AllocError> {
+    for (place, number) in asked.iter().enumerate() {
+        record.reserve()?;
+        record.ask(*number);
+        if place < told {
+            record.deliver(*number);
+        }
+    }
+    Ok(())
+}
+
 #[test]
 fn records(rt: HostRuntime) -> Result<(), Fail> {
     let mut ended = record(rt.alloc(), 2, 3, 2, 1)?;
     ended.epoch = 4;
     ended.own = Session { stamp: 5, count: 6 };
     ended.theirs = Session { stamp: 7, count: 8 };
+    tell(&mut ended, &[0, 2], 1)?;
     ended.over = Some(Reason::PartnerClosed { code: 1 });
     let mut never = record(rt.alloc(), 3, 0, 0, 0)?;
     never.connected = false;
@@ -179,7 +218,7 @@ fn records(rt: HostRuntime) -> Result<(), Fail> {
     assert_eq!(rt;
         text.as_str(),
         "  link 0 0 epoch 0 own 1.1 partner 1.1 accepted 0 taken 5 acked 4 delivered 0 ended 0
-  link 2 0 epoch 4 own 5.6 partner 7.8 accepted 3 taken 2 acked 1 delivered 0 ended 0
+  link 2 0 epoch 4 own 5.6 partner 7.8 accepted 3 taken 2 acked 1 delivered 1 ended 0
   over 2 0 epoch 4 own 5.6 partner 7.8 partner-closed 1
   over 3 0 epoch 0 own 1.1 partner 1.1 unequal-sizes 16 32
 "
