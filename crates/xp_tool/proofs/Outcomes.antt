@@ -1,8 +1,7 @@
 -- What each status says, from when it comes.
-use Rattle.std.proofs.Common.{◌≡◌, ℕ, ◌+◌, ◌-◌, ◌^◌, ◌<◌, ◌≤◌, ◌⊎◌, ◌↔◌, inl, inr, true, false, List, [], ◌++◌, length, Option, Some, None, IsSome, IfSome, refl, ap, sym, ◌∙◌, subst, arith, append-nil, length-append, take}
+use Rattle.std.proofs.Common.{◌≡◌, ℕ, ◌-◌, ◌^◌, ◌<◌, ◌≤◌, ◌⊎◌, ◌↔◌, inl, inr, true, false, List, ◌++◌, length, Option, Some, None, IsSome, IfSome, refl, ap, sym, ◌∙◌, subst, arith, append-nil, length-append, take}
 use Rattle.std.specs.Io.KnownBytes.{Appends, Consumes, IsAtEnd}
 use Rattle.xp_outside.specs.Causes.{Rose}
-use Rattle.xp_scenario.specs.Text.{scenario_of}
 use Rattle.xp_world.specs.declared.world.World.{World}
 use Rattle.xp_tool.specs.declared.plain.ToolCommand.{ToolCommand}
 use Rattle.xp_tool.specs.declared.plain.ToolCommand.TheVariants.{Replay}
@@ -10,7 +9,7 @@ use Rattle.xp_tool.specs.declared.plain.Made.{Made}
 use Rattle.xp_tool.specs.declared.status.Status.{Status}
 use Rattle.xp_tool.specs.declared.status.Status.TheVariants.{Ok, Usage, ReadFault, WriteFault, BadInput, NoMemory}
 use Rattle.xp_tool.specs.declared.status.InputFault.TheVariants.{Unbuilt}
-use Rattle.xp_tool.specs.Plain.{Does, text_of, IsRefused, Ran, Headline, Cut, IsBad, WritesSome, Outcome, IsGood, IsWrong, input_limit}
+use Rattle.xp_tool.specs.Plain.{Does, IsRefused, Ran, Headline, Cut, IsBad, WritesSome, Outcome, IsGood, IsWrong, input_limit}
 use Rattle.xp_tool.specs.Made.{IsMade, IsUnmade, Wrote}
 
 some_none : {A : Type 0} (o : Option A) → IsSome o → o ≡ None → ⊥

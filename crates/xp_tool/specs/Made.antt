@@ -1,5 +1,5 @@
 -- What a command made of its input before anything is written, and what the writing of it gives.
-use Rattle.std.specs.Prelude.{◌≡◌, ℕ, ◌⊎◌, List, take, Option, Some, None}
+use Rattle.std.specs.Prelude.{◌≡◌, ℕ, List, take, Option, Some, None}
 use Rattle.std.specs.Io.KnownBytes.{Appends}
 use Rattle.xp_outside.specs.Causes.{Rose}
 use Rattle.xp_world.specs.declared.world.World.{World}
@@ -7,7 +7,6 @@ use Rattle.xp_tool.specs.declared.plain.ToolCommand.{ToolCommand}
 use Rattle.xp_tool.specs.declared.plain.Made.{Made}
 use Rattle.xp_tool.specs.declared.status.Status.{Status}
 use Rattle.xp_tool.specs.declared.status.Status.TheVariants.{Ok, Usage, ReadFault, WriteFault, BadInput, NoMemory}
-use Rattle.xp_tool.specs.declared.status.InputFault.TheVariants.{Unbuilt}
 use Rattle.xp_tool.specs.Plain.{Does, text_of, IsRefused}
 
 pub record IsMade (command : ToolCommand) (input : List ℕ) (made : Made) : Type 0 where

@@ -1,8 +1,16 @@
 //! The program: words and bytes in, bytes out.
 #![tactic(auto)]
 
+#[cfg(test)]
+mod drains;
 pub mod plain;
+#[cfg(test)]
+mod replays;
+#[cfg(test)]
+mod rows;
 pub mod status;
+#[cfg(test)]
+mod tables;
 #[cfg(test)]
 mod tests;
 
