@@ -18,6 +18,22 @@ impl Memory {
     fn store(&mut self, owner: usize, index: usize, word: u64) {
         self.words[owner * PART_WORDS + index] = word;
     }
+
+    fn take(&mut self, owner: usize, index: usize) -> u64 {
+        std::mem::take(&mut self.words[owner * PART_WORDS + index])
+    }
+
+    fn set_bits(&mut self, owner: usize, index: usize, word: u64) {
+        self.words[owner * PART_WORDS + index] |= word;
+    }
+}
+
+/// The message request of channel 0 in a flag word.
+const MESSAGE: u64 = 32;
+
+/// The place of the flag word of partner `q`.
+fn flag_word(q: usize) -> usize {
+    80 + q
 }
 
 /// The place of a counter for partner `q`: 0 is get, 1 is put.
@@ -50,6 +66,7 @@ struct Partition {
     entries: u64,
     limit: usize,
     script: Vec<Command>,
+    turns: u64,
     begun: usize,
     doing: bool,
     decided: Option<Answer>,
@@ -62,6 +79,8 @@ struct Partition {
     pulled: u64,
     taken: u64,
     counters_get: Option<u64>,
+    owes_copy: bool,
+    owes_message: bool,
     copied: [u64; 16],
     copied_words: usize,
     cached: Option<Vec<u8>>,
@@ -90,7 +109,7 @@ fn payload_of(words: &[u64; 16]) -> Vec<u8> {
 
 impl Partition {
     fn is_done(&self) -> bool {
-        self.begun == self.script.len() && !self.doing && self.acked == self.front
+        self.begun == self.script.len() && !self.doing && self.acked == self.front && !self.owes_message
     }
 
     /// One turn: a command is begun where none is in progress, a step is made, and an answer that is due is given.
@@ -98,9 +117,11 @@ impl Partition {
         if !self.doing && self.begun < self.script.len() {
             self.begin();
         }
-        if self.doing && self.decided.is_none() {
+        let served = self.turns % 2 == 0 && self.serve(memory);
+        if !served && self.doing && self.decided.is_none() {
             self.step(memory);
         }
+        self.turns += 1;
         if !self.doing {
             return;
         }
@@ -112,6 +133,23 @@ impl Partition {
             self.taken += 1;
             self.doing = false;
         }
+    }
+
+    /// A turn between those of the script: the flags are taken, a message request that is owed is made, and twice a
+    /// counter is loaded, where a copy of them goes on or is owed. Whether anything was.
+    fn serve(&mut self, memory: &mut Memory) -> bool {
+        let place = self.turns % 8 / 2;
+        if place == 0 {
+            self.owes_copy |= memory.take(self.own, flag_word(self.partner)) & MESSAGE != 0;
+        } else if place == 1 && self.owes_message {
+            memory.set_bits(self.partner, flag_word(self.own), MESSAGE);
+            self.owes_message = false;
+        } else if place >= 2 && (self.owes_copy || self.counters_get.is_some()) {
+            self.copy_counters(memory);
+        } else {
+            return false;
+        }
+        true
     }
 
     fn begin(&mut self) {
@@ -137,6 +175,7 @@ impl Partition {
             Command::Release(_) => {
                 memory.store(self.own, counter(self.partner, 0), self.front);
                 self.acked = self.front;
+                self.owes_message = true;
                 self.decided = Some(Answer::Released(self.front));
             }
         }
@@ -160,31 +199,39 @@ impl Partition {
             memory.store(self.own, counter(self.partner, 1), self.put + 1);
             self.decided = Some(Answer::Sent(self.put));
             self.put += 1;
+            self.owes_message = true;
             self.stored_words = 0;
         }
     }
 
-    fn pull(&mut self, memory: &Memory) {
-        if self.counters_get.is_some() {
+    /// Loads get, and the next time put.
+    fn copy_counters(&mut self, memory: &Memory) {
+        if self.counters_get.take().is_some() {
             let put = memory.load(self.partner, counter(self.own, 1));
             assert!(self.pulled_put <= put && put <= self.front + self.entries);
             self.pulled_put = put;
-            self.counters_get = None;
-        } else if self.pulled < self.pulled_put {
-            let number = (self.pulled % self.entries) as usize;
-            let index = entry_word(self.own, number, self.copied_words);
-            self.copied[self.copied_words] = memory.load(self.partner, index);
-            self.copied_words += 1;
-            if self.copied_words == 16 {
-                assert!(self.copied[1] == self.pulled);
-                self.cached = Some(payload_of(&self.copied));
-                self.copied_words = 0;
-                self.pulled += 1;
-            }
         } else {
             let get = memory.load(self.partner, counter(self.own, 0));
             self.hear_get(get);
+            self.owes_copy = false;
             self.counters_get = Some(get);
+        }
+    }
+
+    fn pull(&mut self, memory: &Memory) {
+        if self.pulled >= self.pulled_put {
+            self.copy_counters(memory);
+            return;
+        }
+        let number = (self.pulled % self.entries) as usize;
+        let index = entry_word(self.own, number, self.copied_words);
+        self.copied[self.copied_words] = memory.load(self.partner, index);
+        self.copied_words += 1;
+        if self.copied_words == 16 {
+            assert!(self.copied[1] == self.pulled);
+            self.cached = Some(payload_of(&self.copied));
+            self.copied_words = 0;
+            self.pulled += 1;
         }
     }
 

@@ -4,6 +4,9 @@
 #   idle  16,000,000 written turns: a take that no message comes for, beside a partition that has ended
 #   busy  22,000 messages sent, taken and released through a queue of 8 entries, in 16,000,000 written turns
 # Where rustc is there, bench/baseline.rs replays them too: a plain program that proves nothing and keeps no history.
+# Where the program crates/xp_bench/out/xp_bench is built (`rt run -- 1 1 40` in crates/xp_bench builds it), it replays
+# partitions that are busy in pairs, which no text spells yet:
+#   pairs 32,000 messages sent, taken and released: all by one pair of partitions, and a quarter each by four pairs
 # Times are processor seconds, of the program and of the system for it. Other load makes them longer.
 set -u
 
@@ -34,31 +37,33 @@ make_busy() {
     }'
 }
 
-# measure PROGRAM SCENARIO REPORT: its processor seconds, and the most memory that it held, in KiB; "?" where that can't be
-# told. Without GNU time python3 measures, which never tells less than its own 10 to 20 MiB.
+# measure INPUT OUTPUT PROGRAM WORD..: its processor seconds, and the most memory that it held, in KiB; "?" where that
+# can't be told. Without GNU time python3 measures, which never tells less than its own 10 to 20 MiB.
 measure() {
+    local input="$1" output="$2"
+    shift 2
     if /usr/bin/time -f '%U %S %M' true >/dev/null 2>&1; then
-        /usr/bin/time -f '%U %S %M' -o "$folder/measured" "$1" replay <"$2" >"$3" || return 1
+        /usr/bin/time -f '%U %S %M' -o "$folder/measured" "$@" <"$input" >"$output" || return 1
         tail -n 1 "$folder/measured" | awk '{ print $1 + $2, $3 }'
     elif command -v python3 >/dev/null 2>&1; then
         python3 -c '
 import resource, subprocess, sys
-program, scenario, report = sys.argv[1:]
-with open(scenario) as given, open(report, "w") as written:
-    subprocess.run([program, "replay"], stdin=given, stdout=written, check=True)
+given, written, *command = sys.argv[1:]
+with open(given) as source, open(written, "w") as sink:
+    subprocess.run(command, stdin=source, stdout=sink, check=True)
 used = resource.getrusage(resource.RUSAGE_CHILDREN)
-print(round(used.ru_utime + used.ru_stime, 2), used.ru_maxrss)' "$1" "$2" "$3"
+print(round(used.ru_utime + used.ru_stime, 2), used.ru_maxrss)' "$input" "$output" "$@"
     else
         local TIMEFORMAT='%U %S'
-        { time "$1" replay <"$2" >"$3"; } 2>"$folder/measured" || return 1
+        { time "$@" <"$input" >"$output"; } 2>"$folder/measured" || return 1
         tail -n 1 "$folder/measured" | awk '{ print $1 + $2, "?" }'
     fi
 }
 
-line() { # who seconds KiB
+line() { # who seconds KiB turns
     local memory="?"
     [ "$3" = "?" ] || memory="$(awk -v k="$3" 'BEGIN { printf "%.0f", k / 1024 }')"
-    awk -v who="$1" -v s="$2" -v m="$memory" -v t="$turns" 'BEGIN {
+    awk -v who="$1" -v s="$2" -v m="$memory" -v t="$4" 'BEGIN {
         rate = s > 0 ? sprintf("%.1f", t / s / 1000000) : "?"
         printf "  %-9s %6.2f s  %6s million turns a second  %5s MiB at most\n", who, s, rate, m
     }'
@@ -78,19 +83,43 @@ failed=0
 for name in idle busy; do
     "make_$name" >"$folder/$name.xp"
     echo "$name: $turns written turns"
-    if ! read -r seconds memory < <(measure "$program" "$folder/$name.xp" "$folder/$name.report"); then
+    if ! read -r seconds memory < <(measure "$folder/$name.xp" "$folder/$name.report" "$program" replay); then
         echo "  the program failed"
         failed=1
         continue
     fi
-    line xpsim "$seconds" "$memory"
+    line xpsim "$seconds" "$memory" "$turns"
     [ -n "$baseline" ] || continue
-    read -r plain_seconds plain_memory < <(measure "$baseline" "$folder/$name.xp" "$folder/$name.plain") || continue
-    line baseline "$plain_seconds" "$plain_memory"
+    read -r plain_seconds plain_memory < <(measure "$folder/$name.xp" "$folder/$name.plain" "$baseline" replay) || continue
+    line baseline "$plain_seconds" "$plain_memory" "$turns"
     awk -v a="$seconds" -v b="$plain_seconds" 'BEGIN { if (b > 0) printf "  ratio %.1f\n", a / b }'
     if ! cmp -s "$folder/$name.report" "$folder/$name.plain"; then
         echo "  the two reports differ"
         failed=1
     fi
 done
+
+# busy_pairs COUNT: the messages in so many pairs of partitions. A message takes a partition at most 19 steps of its script,
+# which has at least every other turn.
+busy_pairs() {
+    local messages=$((all_messages / $1)) seconds memory made acked
+    read -r seconds memory < <(measure /dev/null "$folder/pairs" "$pairs_program" "$1" "$messages" $((40 * messages))) || return 1
+    read -r _ _ _ made _ acked <"$folder/pairs"
+    if [ "$acked" != "$all_messages" ]; then
+        echo "  $acked messages were acknowledged"
+        return 1
+    fi
+    line "$1 pairs" "$seconds" "$memory" "$made"
+}
+
+all_messages=32000
+pairs_program="$(dirname "$here")/crates/xp_bench/out/xp_bench"
+if [ -x "$pairs_program" ]; then
+    echo "pairs: $all_messages messages"
+    for count in 1 4; do
+        busy_pairs "$count" || failed=1
+    done
+else
+    echo "pairs: skipped, crates/xp_bench isn't built"
+fi
 exit $failed
