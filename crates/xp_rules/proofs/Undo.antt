@@ -1,7 +1,7 @@
 -- A step that a rule makes is decoded as that rule, and stands in the layout.
 use Rattle.std.proofs.Common.{◌≡◌, ◌≢◌, ℕ, zero, suc, ◌<◌, Bool, true, false, cond, eqb, refl, arith, Option, Some, None}
 use Rattle.std.proofs.lemmas.Bool.{eq-eqb, ne_eqb}
-use Rattle.xp_base.specs.Places.{IsWithin, place_of-index_of}
+use Rattle.xp_base.specs.Places.{Place, Open, Record, Flag, Args, Counter, Entry, Pool, Beyond, IsWithin, index_of, place_of-index_of}
 use Rattle.xp_rules.specs.declared.rule.RingRule.TheVariants.{ReadGet, WriteEntryWord, AcceptMessage}
 use Rattle.xp_rules.specs.declared.rule.PullRule.TheVariants.{ReadCounters, ReadEntry}
 use Rattle.xp_rules.specs.declared.rule.Rule.{Rule}
@@ -13,6 +13,17 @@ use Rattle.xp_rules.specs.Pulling.{counters_word}
 use Rattle.xp_rules.specs.Rules.{Can, is_own, partner_of, owner, place, kind, mark_of, op_of}
 use Rattle.xp_rules.specs.Decode.{rule_at, rule_of, flag_set}
 use Rattle.xp_rules.specs.Flags.{message_flag}
+
+-- a place of the layout is one of the words of a page
+pub index_low : (pl : Place) → IsWithin pl → index_of pl < 5912
+index_low (Open o) h = omega arith
+index_low (Record q f) h = omega arith
+index_low (Flag q) h = omega arith
+index_low (Args q c f) h = omega arith
+index_low (Counter q c f) h = omega arith
+index_low (Entry q c k f) h = omega arith
+index_low (Pool b f) h = omega arith
+index_low Beyond h = absurd h
 
 counters_low : (o : Option ℕ) → counters_word o < 2
 counters_low None = omega arith
