@@ -1,5 +1,5 @@
 -- The plan of the sending side, and what its calls give.
-use Rattle.std.specs.Prelude.{◌≡◌, ℕ, ◌+◌, ◌-◌, ◌<◌, ◌≤◌, Bool, true, false, not, ◌||◌, if◌then◌else◌, nat_lt, nat_le, Option, Some, None, Result, Ok, Err, IsSome, IfSome}
+use Rattle.std.specs.Prelude.{◌≡◌, ℕ, ◌-◌, not, ◌||◌, if◌then◌else◌, nat_lt, nat_le, Option, Some, None, Result, Ok, Err, IsSome}
 use Rattle.std.specs.Int.{trailing_ones, w16}
 use Rattle.xp_base.specs.declared.step.Answer.{Answer}
 use Rattle.xp_base.specs.declared.step.Answer.TheVariants.{Word, Failed}

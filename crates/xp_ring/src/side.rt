@@ -4,6 +4,7 @@ ghost use Rattle.std.specs.Int.{trailing_ones, w16};
 ghost use Rattle.xp_base.specs.Places.{index_of};
 ghost use Rattle.xp_rules.specs.Setup.{IsSize};
 ghost use Rattle.xp_rules.specs.Sending.{new_sending, send_refusal, send_begun, get_known, is_bad_get, is_full, payload_of, ring_can, ring_after, ring_own, ring_place, ring_kind, ring_mark};
+ghost use Rattle.xp_rules.specs.Rules.{wants_notice};
 ghost use Rattle.xp_ring.specs.Side.{side_plan, side_next, told, stopped, stop_answer, side_fed, MayFeed};
 
 use std::marker::Model;
@@ -228,6 +229,7 @@ impl SendSide {
     pub fn next(&self) -> Option<Wanted>
         requires { self.now.put < 2 ^ 64 - 1 }
         ensures value { result ≡ side_next self.now }
+        ensures can { IfSome (side_plan self.now) (λ rule. ring_can self.now rule) }
         ensures none { result ≡ None ↔ self.now.send ≡ None }
     {
         let rule = self.plan()?;
@@ -297,6 +299,13 @@ impl SendSide {
         ensures { result ≡ is_some self.now.send }
     {
         self.sending
+    }
+
+    /// Whether a send is in progress that asks for a notice.
+    pub fn asks(&self) -> bool
+        ensures { result ≡ wants_notice self.now.send }
+    {
+        self.sending && self.notify
     }
 
     /// The message of the send in progress.
