@@ -30,6 +30,17 @@ step_of x =
 abbrev pub side_plan : Pulling → Option PullRule
 side_plan x = if x.stopped then None else step_of x
 
+-- the step of a take in progress: the next word of an entry where one is there, and else the counters; none where its answer is due
+abbrev pub take_step : Pulling → PullRule
+take_step x = if nat_lt x.pulled x.pulled_put then ReadEntry else ReadCounters
+
+abbrev pub take_plan : Pulling → Option PullRule
+take_plan x = if is_some (take_due x) then None else Some (take_step x)
+
+-- the next message is cached
+abbrev pub has_message : Pulling → Bool
+has_message x = nat_lt 0 (length x.cache)
+
 -- what the other sides of the end tell this one
 abbrev pub beside : ℕ → ℕ → ℕ → Beside
 beside known put front = record { known = known; put = put; front = front }

@@ -4,7 +4,7 @@ ghost use Rattle.std.specs.Prelude.{◌≡◌, ℕ, ◌+◌, ◌-◌, ◌<◌, �
 ghost use Rattle.xp_base.specs.Places.{index_of};
 ghost use Rattle.xp_rules.specs.Setup.{IsSize};
 ghost use Rattle.xp_rules.specs.Pulling.{new_pulling, take_refusal, take_begun, take_due, take_answered, pull_can, pull_after, pull_fault, pull_failed, pull_place, pull_word, get_loaded, put_loaded, counters_fault, entry_after, entry_fault};
-ghost use Rattle.xp_pull.specs.Side.{beside, side_plan, is_copying, kind_of, side_next, answered_if, begun_answer, begun_side, side_fed, stopped, stop_answer};
+ghost use Rattle.xp_pull.specs.Side.{beside, side_plan, take_plan, has_message, is_copying, kind_of, side_next, answered_if, begun_answer, begun_side, side_fed, stopped, stop_answer};
 ghost use Rattle.xp_pull.specs.Cached.{fault_in, IsFitting};
 ghost use Rattle.xp_pull.specs.Keeping.{IsKept, KeepsMessages, NothingLeft};
 
@@ -165,6 +165,35 @@ impl PullSide {
         }
     }
 
+    /// The step of a take, unless its answer is due: the next word of an entry where one is there, and else the counters.
+    pub fn plan_take(&self) -> Option<PullRule>
+        ensures value { result ≡ take_plan self.now }
+        ensures can { IfSome result (λ rule. pull_can self.now rule) }
+    {
+        if self.is_due() {
+            return None;
+        }
+        if self.pulled < self.pulled_put {
+            Some(PullRule::ReadEntry)
+        } else {
+            Some(PullRule::ReadCounters)
+        }
+    }
+
+    /// Whether the answer of a take in progress is due: the queue was shown empty, or the next message is cached.
+    pub fn is_due(&self) -> bool
+        ensures { result ≡ is_some (take_due self.now) }
+    {
+        self.take.is_some() && (self.empty.is_some() || self.has_message())
+    }
+
+    /// Whether the next message is cached.
+    pub fn has_message(&self) -> bool
+        ensures { result ≡ has_message self.now }
+    {
+        self.taken < self.pulled
+    }
+
     /// Which load of its copy comes next.
     pub fn word(&self, rule: PullRule) -> u32
         ensures value { result ≡ pull_word self.now rule }
@@ -297,6 +326,7 @@ impl PullSide {
     /// The step that is wanted next, its copy being without a number.
     pub fn next(&self) -> Option<Wanted>
         ensures value { result ≡ side_next self.now }
+        ensures can { IfSome (side_plan self.now) (λ rule. pull_can self.now rule) }
         ensures none { self.now.stopped ≡ false → (result ≡ None ↔ NothingLeft self.now) }
     {
         let rule = self.plan()?;
