@@ -1,0 +1,11 @@
+pub mod Sound
+pub mod Last
+pub mod Ready
+pub mod Updates
+pub mod Standing
+pub mod Alone
+pub mod Permitting
+pub mod Finding
+pub mod Telling
+pub mod Feeding
+pub mod Pulled
