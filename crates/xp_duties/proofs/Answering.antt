@@ -18,16 +18,16 @@ use Rattle.xp_rules.specs.declared.rule.Rule.TheVariants.{Ring, Pull, Acknowledg
 use Rattle.xp_rules.specs.declared.setup.Setup.{Setup}
 use Rattle.xp_rules.specs.Sending.{Sending, is_bad_get, get_known}
 use Rattle.xp_rules.specs.Pulling.{Pulling, Beside, is_bad_counter, is_bad_put, counters_after, must_not_wait, shown_empty, found, found_by, take_due, get_heard}
-use Rattle.xp_rules.specs.State.{State, Scripted, End, end_at, end_of, set_end}
+use Rattle.xp_rules.specs.State.{State, Scripted, End, end_of}
 use Rattle.xp_rules.specs.Rules.{after_answer, beside_of, pull_numbered, end_pulled}
 use Rattle.xp_rules.specs.Acts.{MayActs, after_act, after_acts, current, due, due_to, decided_or, drained, take_told, end_noticed}
 use Rattle.xp_rules.specs.Runs.{May, after_step}
 use Rattle.xp_rules.specs.Windows.{answers}
-use Rattle.xp_rules.proofs.Slots.{at_end}
-use Rattle.xp_duties.specs.Plan.{position, is_barred, take_step, end_plan, plan_for, script_plan, service_at, first_rule}
+use Rattle.xp_pull.specs.Side.{take_step}
+use Rattle.xp_duties.specs.Plan.{position, is_barred, end_plan, plan_for, script_plan, service_at, first_rule}
 use Rattle.xp_duties.specs.Diligent.{rule_made, IsDiligent}
 use Rattle.xp_duties.proofs.Counters.{same_take}
-use Rattle.xp_duties.proofs.Ends.{stays_end, at_flagged}
+use Rattle.xp_rules.proofs.Ends.{at_changed, stays_end, at_flagged}
 use Rattle.xp_duties.proofs.Turning.{middle, makes, makes_none}
 use Rattle.xp_duties.proofs.Script.{IsService, OnlyService, only_at, serves}
 
@@ -121,20 +121,16 @@ due_loaded st e w =
       drained = λ h. drained_heard e.warm new.warm e.send new.send refl (heard_known e.pull.counters w e.send) h;
     }
 
--- an end after one was replaced by one at which as much is due
-due_at : (P : End → Type 0) (ends : List (List End)) (k d : ℕ) (new : End) (q c : ℕ) → (P (end_at ends k d) → P new) → P (end_at ends q c) → P (end_at (set_end ends k d new) q c)
-due_at P ends k d new q c h old =
-    at_end P ends k d new q c (λ e f. h (subst (λ (i : ℕ). P (end_at ends i d)) e (subst (λ (j : ℕ). P (end_at ends q j)) f old))) old
-
+-- an end at which as much is due
 served_due : (P : End → Type 0) → ((e new : End) → Due e new → P e → P new) → (st : State) (r : Rule) (a : Answer) (q c : ℕ) → IsService r → P (end_of st q c) → P (end_of (after_answer st r a) q c)
 served_due P by st (Ring k d m) a q c h i = absurd h
 served_due P by st (Acknowledge k d) a q c h i = absurd h
 served_due P by st (Pull k d ReadEntry) a q c h i = absurd h
-served_due P by st (Pull k d ReadCounters) (Word w) q c h i = due_at P st.ends k d _ q c (by (end_of st k d) _ (due_loaded st (end_of st k d) w)) i
-served_due P by st (Pull k d ReadCounters) Failed q c h i = due_at P st.ends k d _ q c (by (end_of st k d) _ (due_same (end_of st k d) _ refl refl refl refl refl refl)) i
+served_due P by st (Pull k d ReadCounters) (Word w) q c h i = at_changed P st.ends k d _ q c (by (end_of st k d) _ (due_loaded st (end_of st k d) w)) i
+served_due P by st (Pull k d ReadCounters) Failed q c h i = at_changed P st.ends k d _ q c (by (end_of st k d) _ (due_same (end_of st k d) _ refl refl refl refl refl refl)) i
 served_due P by st (TakeFlags k) (Word w) q c h i = at_flagged P w st.ends k q c (λ g. by (end_of st q c) _ (due_same (end_of st q c) _ refl refl refl refl refl refl) i) i
 served_due P by st (TakeFlags k) Failed q c h i = i
-served_due P by st (SetFlag k d) (Word w) q c h i = due_at P st.ends k d _ q c (by (end_of st k d) _ (due_same (end_of st k d) _ refl refl refl refl refl refl)) i
+served_due P by st (SetFlag k d) (Word w) q c h i = at_changed P st.ends k d _ q c (by (end_of st k d) _ (due_same (end_of st k d) _ refl refl refl refl refl refl)) i
 served_due P by st (SetFlag k d) Failed q c h i = i
 
 -- what is due of a command is told by its end
@@ -162,7 +158,7 @@ step_due s st r a h i =
 noticed_due : (s : Setup) (st : State) (k d : ℕ) → IsSome (due s st) → IsSome (due s (after_act s st (Noticed k d)))
 noticed_due s st k d i =
     let new = end_noticed (end_of st k d) in
-    same_due s st (after_act s st (Noticed k d)) refl (λ q c h. subst (λ (x : Pulling). IsSome (take_told (take_due x))) (sym (stays_end (λ e. e.pull) st.ends k d new q c refl)) h) (λ q c h. due_at Drained st.ends k d new q c (λ g. g) h) i
+    same_due s st (after_act s st (Noticed k d)) refl (λ q c h. subst (λ (x : Pulling). IsSome (take_told (take_due x))) (sym (stays_end (λ e. e.pull) st.ends k d new q c refl)) h) (λ q c h. at_changed Drained st.ends k d new q c (λ g. g) h) i
 
 -- the script plans no step while an answer is due
 due_doing : (b : Bool) (o : Option LogAnswer) → b ≡ false → IsSome (cond b o None) → ⊥

@@ -9,9 +9,7 @@ use Rattle.xp_base.specs.declared.step.Answer.TheVariants.{Word, Failed}
 use Rattle.xp_base.specs.declared.answer.SendAnswer.{SendAnswer}
 use Rattle.xp_base.specs.History.{Marked}
 use Rattle.xp_rules.specs.declared.commands.Command.{Command}
-use Rattle.xp_rules.specs.declared.commands.Command.TheVariants.{Send, Take, Release, Drain}
 use Rattle.xp_rules.specs.declared.engage.Engagement.{Engagement}
-use Rattle.xp_rules.specs.declared.log.LogAnswer.{LogAnswer}
 use Rattle.xp_rules.specs.declared.rule.RingRule.{RingRule}
 use Rattle.xp_rules.specs.declared.rule.RingRule.TheVariants.{ReadGet, WriteEntryWord, AcceptMessage}
 use Rattle.xp_rules.specs.declared.rule.PullRule.{PullRule}
@@ -26,37 +24,9 @@ use Rattle.xp_rules.specs.Flags.{flags_fault}
 use Rattle.xp_rules.specs.Rules.{Can, after_rule, after_failed, after_answer, given, copy_error, mark_of, send_decided, pull_numbered, end_pulled, end_sent, end_acknowledged}
 use Rattle.xp_rules.specs.Acts.{current}
 use Rattle.xp_rules.specs.Runs.{MayMake, after_ruled, after_step}
-use Rattle.xp_duties.proofs.Ends.{at_other, put_all, at_flagged, owed_end}
-
--- a command that sends to this end; one that releases at it
-abbrev pub SendsTo : ℕ → ℕ → Option Command → Type 0
-SendsTo q c (Some (Send k d payload wait notify)) = (k ≡ q) × (d ≡ c)
-SendsTo q c o = ⊥
-
-abbrev pub ReleasesAt : ℕ → ℕ → Option Command → Type 0
-ReleasesAt q c (Some (Release k d number)) = (k ≡ q) × (d ≡ c)
-ReleasesAt q c o = ⊥
-
-both : (q c k d : ℕ) (o : Option Command) → SendsTo q c o → ReleasesAt k d o → ⊥
-both q c k d None a b = a
-both q c k d (Some (Send i j payload wait notify)) a b = b
-both q c k d (Some (Take i j wait)) a b = b
-both q c k d (Some (Release i j number)) a b = a
-both q c k d (Some (Drain i j)) a b = a
-
-one_send : (q c k d : ℕ) (o : Option Command) → SendsTo q c o → SendsTo k d o → (q ≡ k) × (c ≡ d)
-one_send q c k d None a b = absurd a
-one_send q c k d (Some (Send i j payload wait notify)) a b = (sym a.0 ∙ b.0, sym a.1 ∙ b.1)
-one_send q c k d (Some (Take i j wait)) a b = absurd a
-one_send q c k d (Some (Release i j number)) a b = absurd a
-one_send q c k d (Some (Drain i j)) a b = absurd a
-
-one_release : (q c k d : ℕ) (o : Option Command) → ReleasesAt q c o → ReleasesAt k d o → (q ≡ k) × (c ≡ d)
-one_release q c k d None a b = absurd a
-one_release q c k d (Some (Send i j payload wait notify)) a b = absurd a
-one_release q c k d (Some (Take i j wait)) a b = absurd a
-one_release q c k d (Some (Release i j number)) a b = (sym a.0 ∙ b.0, sym a.1 ∙ b.1)
-one_release q c k d (Some (Drain i j)) a b = absurd a
+use Rattle.xp_rules.proofs.Ends.{at_other, put_all, at_flagged, owed_end}
+use Rattle.xp_rules.proofs.Stays.{rule_begun}
+use Rattle.xp_rules.proofs.Targets.{SendsTo, ReleasesAt, not_both, one_send, one_release, none_some}
 
 -- the command in progress is such a one, and its answer isn't decided
 pub record Underway (x : Scripted) (P : Type 0) : Type 0 where
@@ -121,10 +91,6 @@ ring_entries x ReadGet w = get_entries x w (is_bad_get x w) (is_full x w)
 ring_entries x (WriteEntryWord f) w = refl
 ring_entries x AcceptMessage w = refl
 
-pub none_some : {A : Type 0} (o : Option A) → o ≡ None → IsSome o → ⊥
-none_some None e h = cc
-none_some (Some x) e h = cc
-
 -- a step of a send
 record Sent (a : Option SendAnswer) (e new : End) : Type 0 where
   some : IsSome e.send.send
@@ -143,12 +109,12 @@ ring_all x o ends k d new (Some a) h each = λ q c.
     let i = each k d in
     let u = i.sending h.some in
     at_other (EndCalm (send_decided (Some a) x) o q c) ends k d new q c
-    (λ e f. record { sending = λ g. absurd (none_some new.send.send h.ends g); owing = λ g. absurd (both k d k d o u.is (i.owing (omega (arith, g, h.stored, h.front))).is); begun = λ p r. absurd (cc); entries = omega (arith, i.entries, h.entries) })
+    (λ e f. record { sending = λ g. absurd (none_some new.send.send h.ends g); owing = λ g. absurd (not_both k d k d o u.is (i.owing (omega (arith, g, h.stored, h.front))).is); begun = λ p r. absurd (cc); entries = omega (arith, i.entries, h.entries) })
     (λ other.
     let j = each q c in
     record {
       sending = λ g. absurd (let z = one_send q c k d o (j.sending g).is u.is in let f = other z.0 z.1 in let w = h.connected in cc);
-      owing = λ g. absurd (both k d q c o u.is (j.owing g).is);
+      owing = λ g. absurd (not_both k d q c o u.is (j.owing g).is);
       begun = λ p r. absurd (cc);
       entries = j.entries;
     })
@@ -159,13 +125,13 @@ stored_all x y o ends k d owes warm each = λ q c.
     let i = each k d in
     let u = i.owing owes in
     at_other (EndCalm y o q c) ends k d _ q c
-    (λ e f. record { sending = λ g. absurd (both k d k d o (i.sending g).is u.is); owing = λ g. absurd (omega (arith, g)); begun = λ p r t. absurd (both q c k d o t u.is); entries = i.entries })
+    (λ e f. record { sending = λ g. absurd (not_both k d k d o (i.sending g).is u.is); owing = λ g. absurd (omega (arith, g)); begun = λ p r t. absurd (not_both q c k d o t u.is); entries = i.entries })
     (λ other.
     let j = each q c in
     record {
-      sending = λ g. absurd (both q c k d o (j.sending g).is u.is);
+      sending = λ g. absurd (not_both q c k d o (j.sending g).is u.is);
       owing = λ g. absurd (let z = one_release q c k d o (j.owing g).is u.is in let f = other z.0 z.1 in cc);
-      begun = λ p r t. absurd (both q c k d o t u.is);
+      begun = λ p r t. absurd (not_both q c k d o t u.is);
       entries = j.entries;
     })
 
@@ -189,14 +155,6 @@ pub given_length : (es : List Engagement) (q : ℕ) (o : Option Reason) → leng
 given_length es q None = refl
 given_length es q (Some r) = length-set es q (record { reason = Some r })
 
-sent_begun : (a : Option SendAnswer) (x : Scripted) → (send_decided a x).begun ≡ x.begun
-sent_begun None x = refl
-sent_begun (Some a) x = refl
-
-released_begun : (b : Bool) (x : Scripted) (a : Option LogAnswer) → (cond b (record x { decided = a }) x).begun ≡ x.begun
-released_begun true x a = refl
-released_begun false x a = refl
-
 calm_with : (s : Setup) (x y : Scripted) (ends : List (List End)) → y.begun ≡ x.begun → AllCalm y (slice_get s.script (x.begun - 1)) ends → AllCalm y (slice_get s.script (y.begun - 1)) ends
 calm_with s x y ends e h = subst (λ (n : ℕ). AllCalm y (slice_get s.script (n - 1)) ends) (sym e) h
 
@@ -208,7 +166,7 @@ ruled_calm s st (Ring k d m) w can i =
     let e = end_of st k d in
     record {
       engages = given_length st.engages k _ ∙ i.engages;
-      ends = calm_with s st.script _ _ (sent_begun (ring_answer e.send m w) st.script) (ring_all st.script (current s st) st.ends k d (end_sent m w e) (ring_answer e.send m w) (ring_sent e m w can.1 can.0.warm) i.ends);
+      ends = calm_with s st.script _ _ (rule_begun st (Ring k d m) (Word w)) (ring_all st.script (current s st) st.ends k d (end_sent m w e) (ring_answer e.send m w) (ring_sent e m w can.1 can.0.warm) i.ends);
     }
 ruled_calm s st (Pull k d m) w can i = record {
   engages = given_length st.engages k _ ∙ i.engages;
@@ -216,7 +174,7 @@ ruled_calm s st (Pull k d m) w can i = record {
 }
 ruled_calm s st (Acknowledge k d) w can i = record {
   engages = i.engages;
-  ends = calm_with s st.script _ _ (released_begun (end_of st k d).releasing st.script _) (stored_all st.script _ (current s st) st.ends k d can.1 can.0.warm i.ends);
+  ends = calm_with s st.script _ _ (rule_begun st (Acknowledge k d) (Word w)) (stored_all st.script _ (current s st) st.ends k d can.1 can.0.warm i.ends);
 }
 ruled_calm s st (TakeFlags k) w can i = record {
   engages = given_length st.engages k (flags_fault w) ∙ i.engages;

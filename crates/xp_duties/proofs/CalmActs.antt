@@ -16,10 +16,11 @@ use Rattle.xp_rules.specs.declared.setup.Setup.{Setup}
 use Rattle.xp_rules.specs.Sending.{Send as Sendable, send_refusal, begun_unless}
 use Rattle.xp_rules.specs.Releasing.{Releasing, release_refusal, released_unless, release_begun, message_released}
 use Rattle.xp_rules.specs.State.{State, Scripted, End, end_at, end_of, set_end, link_of}
-use Rattle.xp_rules.specs.Acts.{MayAct, MayActs, after_act, after_acts, begun_with, upcoming, current, due, due_to, decided_or, end_begun, end_named, decided_for, send_answered, release_told, held_after, partner_named, channel_named, ends_answered, script_answered, end_answered, end_noticed}
-use Rattle.xp_duties.proofs.Ends.{at_other}
-use Rattle.xp_rules.proofs.Slots.{at_end}
-use Rattle.xp_duties.proofs.Calm.{SendsTo, ReleasesAt, EndCalm, IsCalm, AllCalm, like, put_calm, none_some}
+use Rattle.xp_rules.specs.Acts.{MayAct, MayActs, after_act, after_acts, begun_with, upcoming, current, due, due_to, decided_or, end_begun, end_named, decided_for, send_answered, release_told, held_after, partner_named, channel_named, script_answered, end_answered, end_noticed}
+use Rattle.xp_rules.proofs.Ends.{at_other}
+use Rattle.xp_rules.proofs.Stays.{at_answered}
+use Rattle.xp_rules.proofs.Targets.{SendsTo, send_undue, release_undue, none_some}
+use Rattle.xp_duties.proofs.Calm.{EndCalm, IsCalm, AllCalm, like, put_calm}
 
 -- nothing is under way at an end
 pub record IsQuiet (e : End) : Type 0 where
@@ -91,20 +92,6 @@ begun_calm s st (Some x) e f i =
     }
 
 -- while something is under way no answer is due
-due_sends : (st : State) (o : Option Command) (q c : ℕ) → SendsTo q c o → due_to st o ≡ None
-due_sends st None q c t = absurd t
-due_sends st (Some (Send k d payload wait notify)) q c t = refl
-due_sends st (Some (Take k d wait)) q c t = absurd t
-due_sends st (Some (Release k d number)) q c t = absurd t
-due_sends st (Some (Drain k d)) q c t = absurd t
-
-due_releases : (st : State) (o : Option Command) (q c : ℕ) → ReleasesAt q c o → due_to st o ≡ None
-due_releases st None q c t = absurd t
-due_releases st (Some (Send k d payload wait notify)) q c t = absurd t
-due_releases st (Some (Take k d wait)) q c t = absurd t
-due_releases st (Some (Release k d number)) q c t = refl
-due_releases st (Some (Drain k d)) q c t = absurd t
-
 pub undue : (x : Scripted) (later : Option LogAnswer) → x.decided ≡ None → later ≡ None → cond x.doing (decided_or x.decided later) None ≡ None
 undue x later e f = by x.doing where
   by : (b : Bool) → cond b (decided_or x.decided later) None ≡ None
@@ -113,8 +100,8 @@ undue x later e f = by x.doing where
 
 quiet_due : (s : Setup) (st : State) (q c : ℕ) → IsSome (due s st) → EndCalm st.script (current s st) q c (end_of st q c) → IsQuiet (end_of st q c)
 quiet_due s st q c h i = record {
-  unsent = λ g. let u = i.sending g in none_some (due s st) (undue st.script (due_to st (current s st)) u.undecided (due_sends st (current s st) q c u.is)) h;
-  stored = λ g. let u = i.owing g in none_some (due s st) (undue st.script (due_to st (current s st)) u.undecided (due_releases st (current s st) q c u.is)) h;
+  unsent = λ g. let u = i.sending g in none_some (due s st) (undue st.script (due_to st (current s st)) u.undecided (send_undue st (current s st) q c u.is)) h;
+  stored = λ g. let u = i.owing g in none_some (due s st) (undue st.script (due_to st (current s st)) u.undecided (release_undue st (current s st) q c u.is)) h;
   entries = i.entries;
 }
 
@@ -125,19 +112,11 @@ held_front (Some put) x = refl
 taken_quiet : (e : End) → IsQuiet e → IsQuiet (end_answered e)
 taken_quiet e j = record { unsent = j.unsent; stored = λ g. j.stored (let f = held_front e.pull.empty e.ack in omega (arith, g, f)); entries = j.entries }
 
-answered_quiet : (st : State) (o : Option Command) (a : Option LogAnswer) → ((q c : ℕ) → IsQuiet (end_of st q c)) → (q c : ℕ) → IsQuiet (end_at (ends_answered st o a) q c)
-answered_quiet st (Some (Take k d wait)) None h q c = at_end IsQuiet st.ends k d (end_answered (end_of st k d)) q c (λ e f. taken_quiet (end_of st k d) (h k d)) (h q c)
-answered_quiet st (Some (Take k d wait)) (Some a) h q c = h q c
-answered_quiet st (Some (Send k d payload wait notify)) a h q c = h q c
-answered_quiet st (Some (Release k d number)) a h q c = h q c
-answered_quiet st (Some (Drain k d)) a h q c = h q c
-answered_quiet st None a h q c = h q c
-
 act_calm : (s : Setup) (st : State) (a : Act) → MayAct s st a → IsCalm s st → IsCalm s (after_act s st a)
 act_calm s st Begun m i = begun_calm s st (upcoming s st) refl m.0 i
 act_calm s st Answered m i = record {
   engages = i.engages;
-  ends = λ q c. still (script_answered st.script) _ q c _ refl (answered_quiet st (current s st) st.script.decided (λ p d. quiet_due s st p d m (i.ends p d)) q c);
+  ends = λ q c. still (script_answered st.script) _ q c _ refl (at_answered IsQuiet taken_quiet st (current s st) st.script.decided q c (quiet_due s st q c m (i.ends q c)));
 }
 act_calm s st (Noticed k d) m i = record {
   engages = i.engages;

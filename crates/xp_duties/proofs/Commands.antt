@@ -19,7 +19,9 @@ use Rattle.xp_rules.specs.Runs.{owes_get}
 use Rattle.xp_rules.specs.Windows.{SomeTurn, Steps, sends_on, SendsOn, Acknowledges, IsGoing}
 use Rattle.xp_ring.specs.Side.{step_after, plan_of}
 use Rattle.xp_duties.specs.Plan.{ring_at}
-use Rattle.xp_duties.proofs.Calm.{SendsTo, ReleasesAt, IsCalm}
+use Rattle.xp_rules.proofs.Opened.{number_low}
+use Rattle.xp_rules.proofs.Targets.{SendsTo, ReleasesAt}
+use Rattle.xp_duties.proofs.Calm.{IsCalm}
 use Rattle.xp_duties.proofs.CalmActs.{undue}
 use Rattle.xp_duties.proofs.Fits.{IsFit}
 use Rattle.xp_duties.proofs.Turning.{middle, Fine, free_mid}
@@ -27,7 +29,7 @@ use Rattle.xp_duties.proofs.Contacts.{made_by}
 use Rattle.xp_duties.proofs.Script.{Same, serves, Goes, goes_same, quiet_acts, going_plan, script_walk}
 
 pub linked : (s : Setup) (st : State) (q c : ℕ) → IsFit s st → (end_of st q c).warm ≡ true → 0 < length s.links
-linked s st q c fit warm = let x = (fit q c).link warm in omega (arith, x.low)
+linked s st q c fit warm = let x = (fit q c).link warm in omega (arith, number_low s q c x.0 x.1)
 
 pub undecided : (b : Bool) (d later : Option LogAnswer) → b ≡ true → cond b (decided_or d later) None ≡ None → (d ≡ None) × (later ≡ None)
 undecided true None later e f = (refl, f)

@@ -1,6 +1,6 @@
 -- The flags of each partner with whom there is contact are taken, and each message request that is owed is made.
 use Rattle.std.proofs.Common.{◌≡◌, ℕ, suc, ◌≤◌, Bool, true, false, cond, List, [], ◌∷◌, length, get_or, refl, ap, sym, ◌∙◌, arith, inl, inr, ◌⊎◌, Some, None}
-use Rattle.std.proofs.lemmas.Bool.{cases_eq, or_cases}
+use Rattle.std.proofs.lemmas.Bool.{or_cases}
 use Rattle.xp_base.specs.declared.step.Answer.{Answer}
 use Rattle.xp_base.specs.declared.step.Answer.TheVariants.{Word, Failed}
 use Rattle.xp_base.specs.History.{Turn}
@@ -20,11 +20,12 @@ use Rattle.xp_rules.specs.Windows.{SomeTurn, Steps, TakesFlags, Requests}
 use Rattle.xp_rules.proofs.Slots.{at_end}
 use Rattle.xp_duties.specs.Plan.{script_plan, first_rule}
 use Rattle.xp_duties.specs.Diligent.{rule_made}
-use Rattle.xp_duties.proofs.Ends.{stays_end, set_other, at_flagged}
+use Rattle.xp_rules.proofs.Ends.{here_or, at_changed, stays_end, set_other, at_flagged}
+use Rattle.xp_rules.proofs.Stays.{act_stays}
 use Rattle.xp_duties.proofs.Fits.{IsFit}
 use Rattle.xp_duties.proofs.Turning.{middle, makes, steps_by, Fine}
 use Rattle.xp_duties.proofs.Walk.{KeptByActs, acts_keep, turn_keeps, some_or}
-use Rattle.xp_duties.proofs.Service.{service_walk, act_stays}
+use Rattle.xp_duties.proofs.Service.{service_walk}
 
 -- a rule that a turn made
 pub made_by : (E : State → Rule → Type 0) (s : Setup) (q n : ℕ) (st : State) (t : Turn) (ts : List Turn) (r : Rule) → Fine s q n st (t ∷ ts) → rule_made s t.made ≡ Some r → E (middle s st t) r → Steps E s st t
@@ -86,7 +87,7 @@ numbered_owes st e ReadEntry = refl
 ruled_owes : (s : Setup) (q c : ℕ) (st : State) (r : Rule) (a : Answer) → OwesMessage q c st → Requests q c st r ⊎ OwesMessage q c (after_answer st r a)
 unfolding OwesMessage
 ruled_owes s q c st (Ring k d m) (Word w) h =
-    inr (at_end (λ e. e.owes_message ≡ true) st.ends k d _ q c (λ e f. still_owes m (end_of st k d).owes_message (ap (λ (i : ℕ). (end_of st i d).owes_message) (sym e) ∙ ap (λ (i : ℕ). (end_of st q i).owes_message) (sym f) ∙ h)) h)
+    inr (at_changed (λ e. e.owes_message ≡ true) st.ends k d _ q c (still_owes m (end_of st k d).owes_message) h)
 ruled_owes s q c st (Ring k d m) Failed h = inr h
 ruled_owes s q c st (Pull k d m) (Word w) h = inr (stays_end (λ e. e.owes_message) st.ends k d _ q c (pulled_owes st (end_of st k d) m w) ∙ h)
 ruled_owes s q c st (Pull k d m) Failed h = inr (stays_end (λ e. e.owes_message) st.ends k d _ q c (numbered_owes st (end_of st k d) m) ∙ h)
@@ -95,14 +96,10 @@ ruled_owes s q c st (Acknowledge k d) Failed h = inr h
 ruled_owes s q c st (TakeFlags k) (Word w) h = inr (at_flagged (λ e. e.owes_message ≡ true) w st.ends k q c (λ g. h) h)
 ruled_owes s q c st (TakeFlags k) Failed h = inr h
 ruled_owes s q c st (SetFlag k d) Failed h = inr h
-ruled_owes s q c st (SetFlag k d) (Word w) h = by (cases_eq q k) (cases_eq c d) where
-  other : (q ≡ k → c ≡ d → ⊥) → Requests q c st (SetFlag k d) ⊎ ((end_of (after_answer st (SetFlag k d) (Word w)) q c).owes_message ≡ true)
-  other n = inr (ap (λ (e : End). e.owes_message) (set_other st.ends k d _ q c n) ∙ h)
-
-  by : (q ≡ k) ⊎ (q ≡ k → ⊥) → (c ≡ d) ⊎ (c ≡ d → ⊥) → Requests q c st (SetFlag k d) ⊎ ((end_of (after_answer st (SetFlag k d) (Word w)) q c).owes_message ≡ true)
-  by (inl e) (inl f) = inl (sym e, sym f)
-  by (inr n) j = other (λ e f. n e)
-  by (inl e) (inr n) = other (λ g f. n f)
+ruled_owes s q c st (SetFlag k d) (Word w) h = elim (here_or ((end_of (after_answer st (SetFlag k d) (Word w)) q c).owes_message ≡ true) q c k d (λ n. ap (λ (e : End). e.owes_message) (set_other st.ends k d _ q c n) ∙ h)) [
+  | inl e ↦ inl (sym e.0, sym e.1)
+  | inr g ↦ inr g
+]
 
 pub requests_made : (s : Setup) (q c n : ℕ) (st : State) (ts : List Turn) → IsFit s st → (end_of st q c).owes_message ≡ true → 256 ≤ length ts → Fine s q n st ts → SomeTurn (Steps (Requests q c) s) s st ts
 unfolding OwesMessage

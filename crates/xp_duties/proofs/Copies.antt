@@ -15,10 +15,11 @@ use Rattle.xp_rules.specs.Runs.{after_step, after_turn}
 use Rattle.xp_rules.specs.Windows.{SomeTurn, SomeThen, Steps, BeginsCopy, EndsCopy}
 use Rattle.xp_duties.specs.Plan.{script_plan, first_rule}
 use Rattle.xp_duties.specs.Diligent.{rule_made}
+use Rattle.xp_rules.proofs.Stays.{act_stays}
 use Rattle.xp_duties.proofs.Fits.{HasLink, IsFit}
 use Rattle.xp_duties.proofs.Turning.{middle, Makes, makes, steps_by, Fine, fine_next, heard}
 use Rattle.xp_duties.proofs.Walk.{KeptByActs, acts_keep, turn_keeps, some_or}
-use Rattle.xp_duties.proofs.Service.{IsServed, service_walk, act_stays}
+use Rattle.xp_duties.proofs.Service.{IsServed, service_walk}
 use Rattle.xp_duties.proofs.Contacts.{made_by}
 use Rattle.xp_duties.proofs.Counters.{Left, leaves_counters, opened_copy, closed_copy, begun_pull, answered_counters, answered_owes}
 

@@ -1,7 +1,6 @@
 -- What steps leave of a copy of the counters that is owed, or that goes on.
 use Rattle.std.proofs.Common.{◌≡◌, ℕ, Bool, true, false, cond, eqb, List, [], ◌∷◌, ◌++◌, length, refl, ap, sym, ◌∙◌, subst, inl, inr, ◌⊎◌, Option, Some, None}
 use Rattle.std.specs.Prelude.{IsSome}
-use Rattle.std.proofs.lemmas.Bool.{cases_eq}
 use Rattle.xp_base.specs.declared.reason.Reason.{Reason}
 use Rattle.xp_base.specs.declared.reason.Reason.TheVariants.{BadCounters}
 use Rattle.xp_base.specs.declared.step.Answer.{Answer}
@@ -16,7 +15,7 @@ use Rattle.xp_rules.specs.Pulling.{Pulling, Beside, is_bad_counter, is_bad_put, 
 use Rattle.xp_rules.specs.State.{State, End, end_of, link_of}
 use Rattle.xp_rules.specs.Rules.{after_answer, beside_of, pull_numbered, end_pulled, copy_error, mark_of}
 use Rattle.xp_rules.specs.Acts.{end_begun, end_answered}
-use Rattle.xp_duties.proofs.Ends.{stays_end, set_here, set_other, at_flagged}
+use Rattle.xp_rules.proofs.Ends.{Other, here_or, stays_end, set_here, set_other, at_flagged}
 use Rattle.xp_duties.proofs.Turning.{IsHeard}
 
 -- a copy that goes on stays as it is, and one that is owed stays owed
@@ -55,15 +54,14 @@ leaves_counters st (TakeFlags k) (Word w) q c = inr (at_flagged (λ e. Left (end
 leaves_counters st (TakeFlags k) Failed q c = inr (left_same (end_of st q c).pull _ refl)
 leaves_counters st (SetFlag k d) (Word w) q c = inr (left_same (end_of st q c).pull _ (stays_end (λ e. e.pull) st.ends k d _ q c refl))
 leaves_counters st (SetFlag k d) Failed q c = inr (left_same (end_of st q c).pull _ refl)
-leaves_counters st (Pull k d ReadCounters) a q c = by (cases_eq k q) (cases_eq d c) where
-  kept : (b : Answer) → (q ≡ k → c ≡ d → ⊥) → Left (end_of st q c).pull (end_of (after_answer st (Pull k d ReadCounters) b) q c).pull
-  kept (Word w) n = left_same (end_of st q c).pull _ (ap (λ (e : End). e.pull) (set_other st.ends k d _ q c n))
-  kept Failed n = left_same (end_of st q c).pull _ (ap (λ (e : End). e.pull) (set_other st.ends k d _ q c n))
-
-  by : (k ≡ q) ⊎ (k ≡ q → ⊥) → (d ≡ c) ⊎ (d ≡ c → ⊥) → (Pull k d ReadCounters ≡ Pull q c ReadCounters) ⊎ Left (end_of st q c).pull (end_of (after_answer st (Pull k d ReadCounters) a) q c).pull
-  by (inl e) (inl f) = inl (ap (λ (i : ℕ). Pull i d ReadCounters) e ∙ ap (λ (j : ℕ). Pull q j ReadCounters) f)
-  by (inr n) j = inr (kept a (λ e f. n (sym e)))
-  by (inl e) (inr n) = inr (kept a (λ g f. n (sym f)))
+leaves_counters st (Pull k d ReadCounters) a q c = elim (here_or (Left (end_of st q c).pull (end_of (after_answer st (Pull k d ReadCounters) a) q c).pull) q c k d (kept a)) [
+  | inl e ↦ inl (λ i. Pull (sym e.0 i) (sym e.1 i) ReadCounters)
+  | inr g ↦ inr g
+]
+  where
+    kept : (b : Answer) → Other q c k d → Left (end_of st q c).pull (end_of (after_answer st (Pull k d ReadCounters) b) q c).pull
+    kept (Word w) n = left_same (end_of st q c).pull _ (ap (λ (e : End). e.pull) (set_other st.ends k d _ q c n))
+    kept Failed n = left_same (end_of st q c).pull _ (ap (λ (e : End). e.pull) (set_other st.ends k d _ q c n))
 
 -- a load of these counters begins a copy
 pub record Opened (x y : Pulling) : Type 0 where

@@ -1,7 +1,6 @@
 -- What holds of each end at all times: it is connected only by a link, owes only where it is connected, and has cached what it pulled and not taken.
-use Rattle.std.proofs.Common.{◌≡◌, ℕ, suc, ◌+◌, ◌<◌, Bool, true, false, cond, eqb, List, [], ◌∷◌, ◌++◌, length, refl, ap, sym, ◌∙◌, subst, arith, length-append, Option, Some, None}
+use Rattle.std.proofs.Common.{◌≡◌, ℕ, suc, ◌+◌, Bool, true, false, cond, eqb, List, [], ◌∷◌, ◌++◌, length, refl, ap, sym, ◌∙◌, subst, arith, length-append, Option, Some, None}
 use Rattle.std.specs.Prelude.{IsSome}
-use Rattle.std.specs.List.{slice_get}
 use Rattle.xp_base.specs.declared.reason.Reason.{Reason}
 use Rattle.xp_base.specs.declared.step.Answer.{Answer}
 use Rattle.xp_base.specs.declared.step.Answer.TheVariants.{Word, Failed}
@@ -23,16 +22,13 @@ use Rattle.xp_rules.specs.Sending.{send_begun}
 use Rattle.xp_rules.specs.Rules.{Can, after_answer, beside_of, pull_numbered, end_pulled}
 use Rattle.xp_rules.specs.Acts.{MayAct, MayActs, after_act, after_acts, begun_with, upcoming, current, due_to, decided_or, take_told, end_begun, end_named, partner_named, channel_named, ends_answered, end_answered, end_noticed}
 use Rattle.xp_rules.specs.Runs.{MayMake, after_ruled, after_step}
-use Rattle.xp_duties.proofs.Ends.{put_all, at_flagged, owed_end}
+use Rattle.xp_rules.proofs.Ends.{put_all, at_flagged, owed_end}
+use Rattle.xp_rules.proofs.Opened.{LinkAt}
+use Rattle.xp_rules.proofs.Stays.{numbered_warm}
 
--- the link by which an end is connected
-pub record HasLink (s : Setup) (q c : ℕ) : Type 0 where
-  pub place : ℕ
-  pub low : place < length s.links
-  pub link : Link
-  pub is : slice_get s.links place ≡ Some link
-  pub partner : link.partner ≡ q
-  pub channel : link.channel ≡ c
+-- a link by which an end may be connected
+abbrev pub HasLink : Setup → ℕ → ℕ → Type 0
+HasLink s q c = (l : Link) × LinkAt s q c l
 
 abbrev pub IsWhole : Pulling → Type 0
 IsWhole x = x.taken + length x.cache ≡ x.pulled
@@ -99,10 +95,6 @@ pulled_whole b x ReadEntry w h = entry_whole (x.copied ++ w ∷ []) x h
 failed_whole : (x : Pulling) (m : PullRule) → IsWhole x → IsWhole (pull_failed x m)
 failed_whole x ReadCounters h = h
 failed_whole x ReadEntry h = h
-
-numbered_warm : (st : State) (m : PullRule) (e : End) → (pull_numbered st.copies m e).warm ≡ e.warm
-numbered_warm st ReadCounters e = refl
-numbered_warm st ReadEntry e = refl
 
 numbered_pull : (st : State) (m : PullRule) (e : End) → (pull_numbered st.copies m e).pull ≡ e.pull
 numbered_pull st ReadCounters e = refl

@@ -1,4 +1,3 @@
-pub mod Ends
 pub mod Positions
 pub mod Calm
 pub mod CalmActs

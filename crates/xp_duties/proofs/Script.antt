@@ -20,8 +20,9 @@ use Rattle.xp_rules.specs.Runs.{after_turn}
 use Rattle.xp_rules.specs.Windows.{SomeTurn, Steps, IsFree}
 use Rattle.xp_duties.specs.Plan.{position, is_barred, is_of_script, end_plan, plan_for, script_plan, service, service_on, service_at, first_rule}
 use Rattle.xp_duties.specs.Diligent.{rule_made}
-use Rattle.xp_duties.proofs.Ends.{stays_end, at_flagged}
-use Rattle.xp_duties.proofs.Calm.{none_some, heard_send}
+use Rattle.xp_rules.proofs.Ends.{stays_end, stays_flagged}
+use Rattle.xp_rules.proofs.Targets.{none_some}
+use Rattle.xp_duties.proofs.Calm.{heard_send}
 use Rattle.xp_duties.proofs.Positions.{own, unserved}
 use Rattle.xp_duties.proofs.Turning.{middle, Fine}
 use Rattle.xp_duties.proofs.Walk.{walk, KeptByActs, acts_keep, turn_keeps, some_or}
@@ -93,11 +94,11 @@ serves st (TakeFlags k) (Word w) q c h =
     let e = end_of st q c in
     record {
       script = refl;
-      warm = at_flagged (λ x. x.warm ≡ e.warm) w st.ends k q c (λ g. refl) refl;
-      send = at_flagged (λ x. x.send.send ≡ e.send.send) w st.ends k q c (λ g. refl) refl;
-      entries = at_flagged (λ x. x.send.entries ≡ e.send.entries) w st.ends k q c (λ g. refl) refl;
-      stored = at_flagged (λ x. x.stored ≡ e.stored) w st.ends k q c (λ g. refl) refl;
-      front = at_flagged (λ x. x.ack.front ≡ e.ack.front) w st.ends k q c (λ g. refl) refl;
+      warm = stays_flagged (λ x. x.warm) (λ x. refl) w st.ends k q c;
+      send = stays_flagged (λ x. x.send.send) (λ x. refl) w st.ends k q c;
+      entries = stays_flagged (λ x. x.send.entries) (λ x. refl) w st.ends k q c;
+      stored = stays_flagged (λ x. x.stored) (λ x. refl) w st.ends k q c;
+      front = stays_flagged (λ x. x.ack.front) (λ x. refl) w st.ends k q c;
     }
 serves st (TakeFlags k) Failed q c h = record { script = refl; warm = refl; send = refl; entries = refl; stored = refl; front = refl }
 serves st (SetFlag k d) (Word w) q c h = record {

@@ -1,7 +1,7 @@
 -- A take goes on within four turns: it loads a word of an entry where one is there, or else get and then put.
 use Rattle.std.proofs.Common.{◌≡◌, ℕ, ◌+◌, ◌<◌, ◌≤◌, Bool, true, false, cond, ltb, eqb, List, ◌∷◌, length, refl, ap, sym, ◌∙◌, subst, arith, inl, inr, ◌⊎◌, Option, Some, None}
 use Rattle.std.specs.Prelude.{IsSome, is_some}
-use Rattle.std.proofs.lemmas.Bool.{cases_lt, cases_eq, ltb-true, ltb-false, le-ltb, ne_eqb, and_right, or_parts}
+use Rattle.std.proofs.lemmas.Bool.{cases_lt, ltb-true, ltb-false, le-ltb, ne_eqb, and_right, or_parts}
 use Rattle.xp_base.specs.declared.step.Answer.{Answer}
 use Rattle.xp_base.specs.declared.step.Answer.TheVariants.{Word, Failed}
 use Rattle.xp_base.specs.declared.answer.TakeAnswer.{TakeAnswer}
@@ -18,10 +18,11 @@ use Rattle.xp_rules.specs.Rules.{Can, after_answer, beside_of, pull_numbered, en
 use Rattle.xp_rules.specs.Acts.{after_act, current, due, due_to, take_told, end_noticed}
 use Rattle.xp_rules.specs.Runs.{after_step, after_turn}
 use Rattle.xp_rules.specs.Windows.{SomeTurn, Steps, TakesOn, IsGoing}
-use Rattle.xp_duties.specs.Plan.{take_step, script_plan}
+use Rattle.xp_pull.specs.Side.{take_step}
+use Rattle.xp_duties.specs.Plan.{script_plan}
 use Rattle.xp_duties.specs.Diligent.{rule_made}
-use Rattle.xp_duties.proofs.Ends.{stays_end, set_here, set_other, at_flagged}
-use Rattle.xp_duties.proofs.Calm.{none_some}
+use Rattle.xp_rules.proofs.Ends.{Other, here_or, stays_end, set_here, set_other, at_flagged}
+use Rattle.xp_rules.proofs.Targets.{none_some}
 use Rattle.xp_duties.proofs.CalmActs.{undue}
 use Rattle.xp_duties.proofs.Fits.{IsFit}
 use Rattle.xp_duties.proofs.Turning.{middle, Makes, makes, steps_by, Fine, fine_next, free_mid, heard}
@@ -57,15 +58,14 @@ serves_pull st (TakeFlags k) (Word w) q c h = inr (at_flagged (λ e. unowed e.pu
 serves_pull st (TakeFlags k) Failed q c h = inr refl
 serves_pull st (SetFlag k d) (Word w) q c h = inr (stays_end (λ e. unowed e.pull) st.ends k d _ q c refl)
 serves_pull st (SetFlag k d) Failed q c h = inr refl
-serves_pull st (Pull k d ReadCounters) a q c h = by (cases_eq k q) (cases_eq d c) where
-  kept : (b : Answer) → (q ≡ k → c ≡ d → ⊥) → unowed (end_of (after_answer st (Pull k d ReadCounters) b) q c).pull ≡ unowed (end_of st q c).pull
-  kept (Word w) n = ap (λ (e : End). unowed e.pull) (set_other st.ends k d _ q c n)
-  kept Failed n = ap (λ (e : End). unowed e.pull) (set_other st.ends k d _ q c n)
-
-  by : (k ≡ q) ⊎ (k ≡ q → ⊥) → (d ≡ c) ⊎ (d ≡ c → ⊥) → (Pull k d ReadCounters ≡ Pull q c ReadCounters) ⊎ (unowed (end_of (after_answer st (Pull k d ReadCounters) a) q c).pull ≡ unowed (end_of st q c).pull)
-  by (inl e) (inl f) = inl (ap (λ (i : ℕ). Pull i d ReadCounters) e ∙ ap (λ (j : ℕ). Pull q j ReadCounters) f)
-  by (inr n) j = inr (kept a (λ e f. n (sym e)))
-  by (inl e) (inr n) = inr (kept a (λ g f. n (sym f)))
+serves_pull st (Pull k d ReadCounters) a q c h = elim (here_or (unowed (end_of (after_answer st (Pull k d ReadCounters) a) q c).pull ≡ unowed (end_of st q c).pull) q c k d (kept a)) [
+  | inl e ↦ inl (λ i. Pull (sym e.0 i) (sym e.1 i) ReadCounters)
+  | inr g ↦ inr g
+]
+  where
+    kept : (b : Answer) → Other q c k d → unowed (end_of (after_answer st (Pull k d ReadCounters) b) q c).pull ≡ unowed (end_of st q c).pull
+    kept (Word w) n = ap (λ (e : End). unowed e.pull) (set_other st.ends k d _ q c n)
+    kept Failed n = ap (λ (e : End). unowed e.pull) (set_other st.ends k d _ q c n)
 
 -- a load of these counters finds nothing where more was put than pulled
 get_unfound : (b : Beside) (x : Pulling) (w : ℕ) → Unfound x → Unfound (get_loaded b x w)

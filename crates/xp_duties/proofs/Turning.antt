@@ -3,8 +3,7 @@ use Rattle.std.proofs.Common.{◌≡◌, ℕ, ◌+◌, ◌<◌, List, [], ◌∷
 use Rattle.xp_base.specs.declared.reason.Reason.{Reason}
 use Rattle.xp_base.specs.declared.step.Answer.{Answer}
 use Rattle.xp_base.specs.declared.step.Answer.TheVariants.{Word, Failed}
-use Rattle.xp_base.specs.History.{Act, Begun, Answered, Noticed, Marked, Turn}
-use Rattle.xp_rules.specs.declared.commands.Command.{Command}
+use Rattle.xp_base.specs.History.{Act, Marked, Turn}
 use Rattle.xp_rules.specs.declared.engage.Engagement.{Engagement}
 use Rattle.xp_rules.specs.declared.rule.Rule.{Rule}
 use Rattle.xp_rules.specs.declared.setup.Setup.{Setup}
@@ -12,9 +11,10 @@ use Rattle.xp_rules.specs.Setup.{IsLawfulSetup}
 use Rattle.xp_rules.specs.State.{State, no_engagement}
 use Rattle.xp_rules.specs.Rules.{Can, partner_of, after_answer, given, fault_of, copy_error, mark_of}
 use Rattle.xp_rules.specs.Decode.{rule_of}
-use Rattle.xp_rules.specs.Acts.{after_act, after_acts, begun_with, upcoming}
+use Rattle.xp_rules.specs.Acts.{after_act, after_acts}
 use Rattle.xp_rules.specs.Runs.{MayMake, RunsFrom, after_ruled, after_step, after_turn}
 use Rattle.xp_rules.specs.Windows.{Throughout, Steps, IsFree}
+use Rattle.xp_rules.proofs.Stays.{act_engages}
 use Rattle.xp_rules.proofs.Undo.{peer_of}
 use Rattle.xp_duties.specs.Diligent.{rule_made, AreDiligent}
 use Rattle.xp_duties.proofs.Calm.{given_length}
@@ -49,15 +49,9 @@ pub steps_by : (E : State → Rule → Type 0) (s : Setup) (st : State) (t : Tur
 steps_by E s st t r m h = record { step = m.step; made = m.made; rule = r; decoded = m.decoded; is = h }
 
 -- acts leave the reasons
-begun_engages : (st : State) (o : Option Command) → (begun_with st o).engages ≡ st.engages
-begun_engages st None = refl
-begun_engages st (Some x) = refl
-
 pub acts_engages : (s : Setup) (st : State) (acts : List Act) → (after_acts s st acts).engages ≡ st.engages
 acts_engages s st [] = refl
-acts_engages s st (Begun ∷ more) = acts_engages s (after_act s st Begun) more ∙ begun_engages st (upcoming s st)
-acts_engages s st (Answered ∷ more) = acts_engages s (after_act s st Answered) more
-acts_engages s st (Noticed q c ∷ more) = acts_engages s (after_act s st (Noticed q c)) more
+acts_engages s st (a ∷ more) = acts_engages s (after_act s st a) more ∙ act_engages s st a
 
 answer_length : (st : State) (r : Rule) (a : Answer) → length (after_answer st r a).engages ≡ length st.engages
 answer_length st r (Word w) = given_length st.engages (partner_of r) (fault_of st r w)

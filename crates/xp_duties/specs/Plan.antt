@@ -1,25 +1,22 @@
 -- The step that a partition's program makes next: in every other turn the one that the command in progress needs, and in the turns
 -- between what is owed on one of its links, which are served in a circle, four turns a link.
-use Rattle.std.specs.Prelude.{ℕ, ◌*◌, ◌/◌, ◌%◌, Bool, not, ◌||◌, if◌then◌else◌, nat_lt, nat_eq, length, slice_get, Option, Some, None, is_some, zero, suc}
+use Rattle.std.specs.Prelude.{ℕ, ◌*◌, ◌/◌, ◌%◌, Bool, not, ◌||◌, if◌then◌else◌, nat_eq, length, slice_get, Option, Some, None, is_some, zero, suc}
 use Rattle.xp_rules.specs.declared.commands.Command.{Command}
 use Rattle.xp_rules.specs.declared.commands.Command.TheVariants.{Send, Take, Release, Drain}
 use Rattle.xp_rules.specs.declared.rule.RingRule.{RingRule}
-use Rattle.xp_rules.specs.declared.rule.PullRule.{PullRule}
-use Rattle.xp_rules.specs.declared.rule.PullRule.TheVariants.{ReadCounters, ReadEntry}
+use Rattle.xp_rules.specs.declared.rule.PullRule.TheVariants.{ReadCounters}
 use Rattle.xp_rules.specs.declared.rule.Rule.{Rule}
 use Rattle.xp_rules.specs.declared.rule.Rule.TheVariants.{Ring, Pull, Acknowledge, TakeFlags, SetFlag}
 use Rattle.xp_rules.specs.declared.setup.Link.{Link}
 use Rattle.xp_rules.specs.declared.setup.Setup.{Setup}
-use Rattle.xp_rules.specs.Pulling.{Pulling, take_due}
+use Rattle.xp_pull.specs.Side.{take_step}
+use Rattle.xp_rules.specs.Pulling.{take_due}
 use Rattle.xp_rules.specs.State.{State, End, end_of, engage_of}
 use Rattle.xp_rules.specs.Runs.{owes_get}
 use Rattle.xp_rules.specs.Acts.{current, partner_named, end_named}
 use Rattle.xp_ring.specs.Side.{side_plan}
 
 -- the step of a command in progress: a take loads the next word of an entry where one is there, and else the counters; a drain makes none
-abbrev pub take_step : Pulling → PullRule
-take_step x = if nat_lt x.pulled x.pulled_put then ReadEntry else ReadCounters
-
 abbrev pub ring_at : ℕ → ℕ → Option RingRule → Option Rule
 ring_at q c None = None
 ring_at q c (Some m) = Some (Ring q c m)
