@@ -22,7 +22,6 @@ use Rattle.xp_rules.specs.declared.rule.RingRule.TheVariants.{ReadGet, WriteEntr
 use Rattle.xp_rules.specs.declared.rule.PullRule.TheVariants.{ReadCounters, ReadEntry}
 use Rattle.xp_rules.specs.declared.rule.Rule.{Rule}
 use Rattle.xp_rules.specs.declared.rule.Rule.TheVariants.{Ring, Pull, Acknowledge, TakeFlags, SetFlag}
-use Rattle.xp_rules.specs.declared.setup.Link.{Link}
 use Rattle.xp_rules.specs.declared.setup.Setup.{Setup}
 use Rattle.xp_rules.specs.declared.scenario.Scenario.{Scenario}
 use Rattle.xp_rules.specs.Scenario.{setup_of, IsLawful}
@@ -35,13 +34,14 @@ use Rattle.xp_rules.specs.Logged.{verb_of, begun_entry, last_answered}
 use Rattle.xp_rules.specs.Acts.{upcoming, current, decided_for, send_answered, take_told, release_told, drain_refusal, drained, begun_with, end_named, due_to, decided_or, due}
 use Rattle.xp_rules.specs.Promised.{is_broken, reason_in}
 use Rattle.xp_rules.proofs.Slots.{at_slot}
+use Rattle.xp_rules.proofs.Stays.{act_engages}
 use Rattle.xp_laws.proofs.Words.{Words}
 use Rattle.xp_laws.proofs.Parts.{Part, part_act, part_ruled}
 use Rattle.xp_laws.proofs.Always.{told}
 use Rattle.xp_laws.proofs.Flags.{Requested, no_bad_flags}
-use Rattle.xp_laws.proofs.Links.{HasLink, mirror, mirrored, get_both}
+use Rattle.xp_laws.proofs.Links.{get_both}
 use Rattle.xp_laws.proofs.Direction.{Out, In, Kept, beside, get_good, put_good, entry_good}
-use Rattle.xp_laws.proofs.Lines.{Good, out_at, in_at, warm_link}
+use Rattle.xp_laws.proofs.Lines.{Good, sent, got, out_at, in_at, warm_link}
 
 -- no word that a rule reads gives a reason
 counters_fault_none : (own : Out) (theirs : In) (o : Out) (i : In) (copy : Option ℕ) (v : ℕ) → (copy ≡ None → v ≡ theirs.get) → ((g : ℕ) → copy ≡ Some g → v ≡ o.put) → Kept own theirs → Kept o i → counters_fault (beside own i) copy i.pull v ≡ None
@@ -60,14 +60,8 @@ module _ (s : Scenario) (law : IsLawful s) (w : Words) (σ : ℕ → Part) (a : 
   abbrev word_told : Rule → ℕ
   word_told r = told (setup_of s a) (σ a).state r w
 
-  sent_by : (q c : ℕ) (l : Link) → HasLink s a q c l → Kept (out_at (w a) (σ a) q c) (in_at (w q) (σ q) a c)
-  sent_by q c l i = good.ways a q c l i
-
-  got_by : (q c : ℕ) (l : Link) → HasLink s a q c l → Kept (out_at (w q) (σ q) a c) (in_at (w a) (σ a) q c)
-  got_by q c l i = good.ways q a c (mirror a l) (mirrored s a q c l law i)
-
   pub get_told_good : (q c : ℕ) → Can (setup_of s a) (σ a).state (Ring q c ReadGet) → is_bad_get (end_of (σ a).state q c).send (word_told (Ring q c ReadGet)) ≡ false
-  get_told_good q c can = let l = warm_link s law a q c (σ a) (good.fixed a low) can.0.warm in get_good (out_at (w a) (σ a) q c) (in_at (w q) (σ q) a c) (sent_by q c l.0 l.1)
+  get_told_good q c can = let l = warm_link s law a q c (σ a) (good.fixed a low) can.0.warm in get_good (out_at (w a) (σ a) q c) (in_at (w q) (σ q) a c) (sent s law w σ a good q c l.0 l.1)
 
   pub no_fault : Requested w → (r : Rule) → Can (setup_of s a) (σ a).state r → fault_of (σ a).state r (word_told r) ≡ None
   no_fault flags (Ring q c ReadGet) can = rw (get_told_good q c can) refl
@@ -78,10 +72,10 @@ module _ (s : Scenario) (law : IsLawful s) (w : Words) (σ : ℕ → Part) (a : 
       let e = end_of (σ a).state q c in
       let first : e.pull.counters ≡ None → word_told (Pull q c ReadCounters) ≡ w q (Counter a c 0) = λ d. ap (λ (y : Option ℕ). w q (Counter a c (counters_word y))) d in
       let second : (g : ℕ) → e.pull.counters ≡ Some g → word_told (Pull q c ReadCounters) ≡ w q (Counter a c 1) = λ g d. ap (λ (y : Option ℕ). w q (Counter a c (counters_word y))) d in
-      counters_fault_none (out_at (w a) (σ a) q c) (in_at (w q) (σ q) a c) (out_at (w q) (σ q) a c) (in_at (w a) (σ a) q c) e.pull.counters (word_told (Pull q c ReadCounters)) first second (sent_by q c l.0 l.1) (got_by q c l.0 l.1)
+      counters_fault_none (out_at (w a) (σ a) q c) (in_at (w q) (σ q) a c) (out_at (w q) (σ q) a c) (in_at (w a) (σ a) q c) e.pull.counters (word_told (Pull q c ReadCounters)) first second (sent s law w σ a good q c l.0 l.1) (got s law w σ a good q c l.0 l.1)
   no_fault flags (Pull q c ReadEntry) can =
       let l = warm_link s law a q c (σ a) (good.fixed a low) can.0.warm in
-      entry_fault_none (out_at (w q) (σ q) a c) (in_at (w a) (σ a) q c) can.1.0 (got_by q c l.0 l.1) (eqb (length (end_of (σ a).state q c).pull.copied + 1) 16) refl
+      entry_fault_none (out_at (w q) (σ q) a c) (in_at (w a) (σ a) q c) can.1.0 (got s law w σ a good q c l.0 l.1) (eqb (length (end_of (σ a).state q c).pull.copied + 1) 16) refl
   no_fault flags (Acknowledge q c) can = refl
   no_fault flags (TakeFlags q) can = no_bad_flags (w a (Flag q)) (flags a q)
   no_fault flags (SetFlag q c) can = refl
@@ -98,14 +92,8 @@ copy_error_clean : (mark : Option CopyMark) → is_broken (copy_error mark) ≡ 
 copy_error_clean None = refl
 copy_error_clean (Some mark) = refl
 
-begun_engages : (st : State) (x : Option Command) → (begun_with st x).engages ≡ st.engages
-begun_engages st None = refl
-begun_engages st (Some x) = refl
-
 pub partners_act : (su : Setup) (k : Part) (x : Act) → Partners k → Partners (part_act su k x)
-partners_act su k Begun h q = ap (λ (es : List Engagement). is_broken (get_or es q no_engagement).reason) (begun_engages k.state (upcoming su k.state)) ∙ h q
-partners_act su k Answered h q = h q
-partners_act su k (Noticed p d) h q = h q
+partners_act su k x h q = ap (λ (es : List Engagement). is_broken (get_or es q no_engagement).reason) (act_engages su k.state x) ∙ h q
 
 pub partners_rule : (k : Part) (r : Rule) (v : ℕ) → fault_of k.state r v ≡ None → Partners k → Partners (part_ruled k r (Word v))
 partners_rule k r v e h q = partners_given k.state.engages (partner_of r) (fault_of k.state r v) (ap is_broken e) h q

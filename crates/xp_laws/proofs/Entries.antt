@@ -3,10 +3,7 @@ use Rattle.std.proofs.Common.{◌≡◌, ℕ, zero, suc, ◌+◌, ◌-◌, ◌<�
 use Rattle.std.specs.Prelude.{IsSome}
 use Rattle.std.specs.List.{slice_get}
 use Rattle.std.proofs.lemmas.List.{append-nil}
-use Rattle.std.proofs.lemmas.Bool.{cond_both}
 use Rattle.xp_base.specs.declared.step.Answer.{Answer}
-use Rattle.xp_base.specs.declared.step.Answer.TheVariants.{Word, Failed}
-use Rattle.xp_base.specs.declared.answer.SendAnswer.{SendAnswer}
 use Rattle.xp_base.specs.History.{Act, Begun, Answered, Noticed}
 use Rattle.xp_rules.specs.declared.commands.Command.{Command}
 use Rattle.xp_rules.specs.declared.commands.Command.TheVariants.{Send, Take, Release, Drain}
@@ -14,14 +11,13 @@ use Rattle.xp_rules.specs.declared.log.Verb.TheVariants.{Send as SendVerb}
 use Rattle.xp_rules.specs.declared.log.LogAnswer.{LogAnswer}
 use Rattle.xp_rules.specs.declared.log.Entry.{Entry}
 use Rattle.xp_rules.specs.declared.rule.Rule.{Rule}
-use Rattle.xp_rules.specs.declared.rule.Rule.TheVariants.{Ring, Pull, Acknowledge, TakeFlags, SetFlag}
 use Rattle.xp_rules.specs.declared.setup.Setup.{Setup}
-use Rattle.xp_rules.specs.Sending.{ring_answer}
-use Rattle.xp_rules.specs.State.{State, Scripted, End, end_of}
-use Rattle.xp_rules.specs.Rules.{kind, send_decided, release_decided}
+use Rattle.xp_rules.specs.State.{State, end_of}
+use Rattle.xp_rules.specs.Rules.{kind}
 use Rattle.xp_rules.specs.Logged.{verb_of, begun_entry, last_answered}
 use Rattle.xp_rules.specs.Acts.{MayAct, upcoming, current, due, due_to, decided_or, begun_with}
 use Rattle.xp_rules.specs.Promised.{Sent, Passed, IsEntryOf, unless_answered, begun_send, answered_send}
+use Rattle.xp_rules.proofs.Stays.{rule_begun, rule_doing}
 use Rattle.xp_laws.proofs.Parts.{Part, part_act, part_ruled, passed_by, sends_ruled}
 use Rattle.xp_laws.proofs.Links.{get_both, get_right}
 use Rattle.xp_laws.proofs.Sends.{Sends, is_doing}
@@ -68,42 +64,12 @@ matched_ruled st r b (y ∷ ys) x h = by h.place h.listed
         }
     by (suc i) e = record { send = h.send; place = suc i; listed = e; number = h.number; answer = h.answer }
 
-decided_begun : (o : Option SendAnswer) (x : Scripted) → (send_decided o x).begun ≡ x.begun
-decided_begun None x = refl
-decided_begun (Some a) x = refl
-
-decided_doing : (o : Option SendAnswer) (x : Scripted) → (send_decided o x).doing ≡ x.doing
-decided_doing None x = refl
-decided_doing (Some a) x = refl
-
-release_begun : (e : End) (x : Scripted) → (release_decided e x).begun ≡ x.begun
-release_begun e x = cond_both e.releasing _ x (λ (y : Scripted). y.begun ≡ x.begun) (λ d. refl) (λ d. refl)
-
-release_doing : (e : End) (x : Scripted) → (release_decided e x).doing ≡ x.doing
-release_doing e x = cond_both e.releasing _ x (λ (y : Scripted). y.doing ≡ x.doing) (λ d. refl) (λ d. refl)
-
-script_begun : (k : Part) (r : Rule) (b : Answer) → (part_ruled k r b).state.script.begun ≡ k.state.script.begun
-script_begun k (Ring q c m) (Word v) = decided_begun (ring_answer (end_of k.state q c).send m v) k.state.script
-script_begun k (Pull q c m) (Word v) = refl
-script_begun k (Acknowledge q c) (Word v) = release_begun (end_of k.state q c) k.state.script
-script_begun k (TakeFlags q) (Word v) = refl
-script_begun k (SetFlag q c) (Word v) = refl
-script_begun k r Failed = refl
-
-script_doing : (k : Part) (r : Rule) (b : Answer) → (part_ruled k r b).state.script.doing ≡ k.state.script.doing
-script_doing k (Ring q c m) (Word v) = decided_doing (ring_answer (end_of k.state q c).send m v) k.state.script
-script_doing k (Pull q c m) (Word v) = refl
-script_doing k (Acknowledge q c) (Word v) = release_doing (end_of k.state q c) k.state.script
-script_doing k (TakeFlags q) (Word v) = refl
-script_doing k (SetFlag q c) (Word v) = refl
-script_doing k r Failed = refl
-
 pub log_rule : (su : Setup) (k : Part) (r : Rule) (b : Answer) → Log su k → Log su (part_ruled k r b)
 log_rule su k r b h = record {
-  count = h.count ∙ sym (script_begun k r b);
+  count = h.count ∙ sym (rule_begun k.state r b);
   numbers = h.numbers;
-  now = λ d. let c = h.now (sym (script_doing k r b) ∙ d) in (c.0, ap (λ (n : ℕ). slice_get su.script (n - 1)) (script_begun k r b) ∙ c.1);
-  last = λ d x y e f. h.last (sym (script_doing k r b) ∙ d) x y (sym (ap (λ (n : ℕ). slice_get su.script (n - 1)) (script_begun k r b)) ∙ e) (sym (ap (λ (n : ℕ). slice_get k.logged.entries (n - 1)) (script_begun k r b)) ∙ f);
+  now = λ d. let c = h.now (sym (rule_doing k.state r b) ∙ d) in (c.0, ap (λ (n : ℕ). slice_get su.script (n - 1)) (rule_begun k.state r b) ∙ c.1);
+  last = λ d x y e f. h.last (sym (rule_doing k.state r b) ∙ d) x y (sym (ap (λ (n : ℕ). slice_get su.script (n - 1)) (rule_begun k.state r b)) ∙ e) (sym (ap (λ (n : ℕ). slice_get k.logged.entries (n - 1)) (rule_begun k.state r b)) ∙ f);
   matched = λ n x e v. matched_ruled k.state r b k.sends x (h.matched n x e v);
 }
 

@@ -23,6 +23,7 @@ use Rattle.xp_rules.specs.State.{State, end_of}
 use Rattle.xp_rules.specs.Scenario.{setup_of, links_of, opening, IsLawful}
 use Rattle.xp_rules.specs.declared.rule.PullRule.TheVariants.{ReadCounters, ReadEntry}
 use Rattle.xp_rules.specs.Rules.{Can, owner, place, op_of}
+use Rattle.xp_rules.proofs.Setups.{lawful_setup}
 use Rattle.xp_rules.proofs.Undo.{within}
 use Rattle.xp_rules.specs.Decode.{rule_of}
 use Rattle.xp_rules.specs.Runs.{MayStep, MayMake}
@@ -34,7 +35,7 @@ use Rattle.xp_laws.proofs.Links.{HasLink, line, mirror, mirrored, once}
 use Rattle.xp_laws.proofs.Opening.{opening_words, engaged_bit}
 use Rattle.xp_laws.proofs.Direction.{taken_prefix}
 use Rattle.xp_laws.proofs.Lines.{recorded, blank_record, strip, out_at, in_at, warm_link, link_number, number_low}
-use Rattle.xp_laws.proofs.Reach.{Sound, parts_of, reached, split, lawful_setup, Before, before_step}
+use Rattle.xp_laws.proofs.Reach.{Sound, parts_of, reached, split, Before, before_step}
 
 -- a record among those of the links
 pub record Named (ls : List Link) (i : ℕ) (r : Recorded) : Type 0 where

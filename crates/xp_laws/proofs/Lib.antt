@@ -6,9 +6,9 @@ pub mod Links
 pub mod Ring
 pub mod Notices
 pub mod Direction
-pub mod Ends
 pub mod Lines
-pub mod Moves
+pub mod RuleMoves
+pub mod ActMoves
 pub mod Opening
 pub mod Clean
 pub mod Freed

@@ -14,11 +14,12 @@ use Rattle.xp_rules.specs.Scenario.{setup_of, links_of, IsLawful}
 use Rattle.xp_rules.specs.State.{End, start, end_of, end_at, set_end}
 use Rattle.xp_rules.specs.Records.{Recorded, opened_record, update_at}
 use Rattle.xp_rules.proofs.Slots.{at_end}
+use Rattle.xp_rules.proofs.Ends.{Other, set_here, set_other, stays_end}
+use Rattle.xp_rules.proofs.Opened.{warm_opened}
 use Rattle.xp_laws.proofs.Words.{Words}
 use Rattle.xp_laws.proofs.Parts.{Part}
 use Rattle.xp_laws.proofs.Always.{at_one, one_here}
-use Rattle.xp_laws.proofs.Links.{HasLink, line, mirror, mirrored}
-use Rattle.xp_laws.proofs.Ends.{Other, start_warm, start_end, end_other, end_here, stays_end}
+use Rattle.xp_laws.proofs.Links.{HasLink, line, mirror, mirrored, start_end}
 use Rattle.xp_laws.proofs.Direction.{Out, In, Kept, counters_set}
 
 -- an answer that takes a message; none is decided before it is due
@@ -105,7 +106,7 @@ module _ (s : Scenario) (law : IsLawful s) where
     pub names : map strip k.logged.records ≡ map opened_record (links_of s p)
 
   pub warm_link : (p q c : ℕ) (k : Part) → Fixed p k → (end_of k.state q c).warm ≡ true → (l : Link) × HasLink s p q c l
-  warm_link p q c k h w = start_warm s p q c (sym (h.warm q c) ∙ w)
+  warm_link p q c k h w = let o = warm_opened (setup_of s p) q c (sym (h.warm q c) ∙ w) in (o.link, o.at)
 
   pub link_warm : (p q c : ℕ) (l : Link) (k : Part) → Fixed p k → HasLink s p q c l → (end_of k.state q c).warm ≡ true
   link_warm p q c l k h i = h.warm q c ∙ ap (λ (e : End). e.warm) (start_end s p q c l law i)
@@ -244,7 +245,7 @@ module _ (s : Scenario) (law : IsLawful s) where
 
     module _ (m : Moves) where
       end_kept : (q c : ℕ) → Other q c b d → end_of k'.state q c ≡ end_of (σ a).state q c
-      end_kept q c o = ap (λ (es : List (List End)). end_at es q c) m.ends ∙ end_other (σ a).state.ends b d x q c o
+      end_kept q c o = ap (λ (es : List (List End)). end_at es q c) m.ends ∙ set_other (σ a).state.ends b d x q c o
 
       records_kept : (q c : ℕ) (l : Link) → HasLink s a q c l → Other q c b d → ((r : Recorded) → f r ≡ r) ⊎ (end_before.warm ≡ true) → recorded (update_at records_before end_before.record_number f) (end_of (σ a).state q c).record_number ≡ recorded records_before (end_of (σ a).state q c).record_number
       records_kept q c l i o (inl e) = ap (λ (rs : List Recorded). recorded rs (end_of (σ a).state q c).record_number) (update_nothing records_before end_before.record_number f e)
@@ -268,7 +269,7 @@ module _ (s : Scenario) (law : IsLawful s) where
               ∙ (λ j. record { pull = (end_of (σ a).state q c).pull; ack = (end_of (σ a).state q c).ack; stored = (end_of (σ a).state q c).stored; taken = (records_kept q c l i o m.safe j).taken; acked = (records_kept q c l i o m.safe j).acked; get = m.counters q c 0 o j })
 
       end_new : (l : Link) → HasLink s a b d l → end_of k'.state b d ≡ x
-      end_new l i = ap (λ (es : List (List End)). end_at es b d) m.ends ∙ end_here (σ a).state.ends b d x (link_warm a b d l (σ a) (good.fixed a low) i)
+      end_new l i = ap (λ (es : List (List End)). end_at es b d) m.ends ∙ set_here (σ a).state.ends b d x (link_warm a b d l (σ a) (good.fixed a low) i)
 
       record_new : (l : Link) → HasLink s a b d l → recorded k'.logged.records (end_of k'.state b d).record_number ≡ f record_before
       record_new l i =
@@ -298,6 +299,14 @@ module _ (s : Scenario) (law : IsLawful s) where
         quiet = all_but (λ p k. (q c : ℕ) → Quiet (end_of k.state q c)) σ a k' quiet_new good.quiet;
         ways = moved w w' σ a b d k' good.ways m.away frame (λ l i. (subst (λ (o : Out). Kept o (in_at (w b) (σ b) a d)) (sym (out_is l i)) (m.here l i).0, subst (λ (y : In). Kept (out_at (w b) (σ b) a d) y) (sym (in_is l i)) (m.here l i).1));
       }
+
+  -- the two directions of a link of partition a
+  module _ (w : Words) (σ : ℕ → Part) (a : ℕ) (good : Good w σ) where
+    pub sent : (q c : ℕ) (l : Link) → HasLink s a q c l → Kept (out_at (w a) (σ a) q c) (in_at (w q) (σ q) a c)
+    sent q c l i = good.ways a q c l i
+
+    pub got : (q c : ℕ) (l : Link) → HasLink s a q c l → Kept (out_at (w q) (σ q) a c) (in_at (w a) (σ a) q c)
+    got q c l i = good.ways q a c (mirror a l) (mirrored s a q c l law i)
 
   -- a move that changes no end and no record
   pub good_same : (w : Words) (σ : ℕ → Part) (a : ℕ) (k' : Part) → Good w σ → a < s.count → k'.state.ends ≡ (σ a).state.ends → k'.logged.records ≡ (σ a).logged.records → takes k'.state.script.decided ≡ false → Good w (at_one σ a k')

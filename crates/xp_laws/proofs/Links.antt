@@ -1,12 +1,14 @@
 -- The links of the partitions: one for each partner and channel at most, and each has its mirror at the partner.
-use Rattle.std.proofs.Common.{◌≡◌, ℕ, zero, suc, ◌+◌, ◌-◌, ◌*◌, ◌<◌, ◌≤◌, Bool, true, false, ◌&&◌, ◌||◌, cond, eqb, List, [], ◌∷◌, ◌++◌, length, refl, ap, sym, ◌∙◌, subst, arith, Some, inl, inr, ◌⊎◌, length-append}
+use Rattle.std.proofs.Common.{◌≡◌, ℕ, zero, suc, ◌+◌, ◌-◌, ◌*◌, ◌<◌, ◌≤◌, Bool, true, false, ◌&&◌, ◌||◌, cond, eqb, List, [], ◌∷◌, ◌++◌, length, refl, ap, sym, ◌∙◌, subst, arith, Some, inl, inr, ◌⊎◌}
 use Rattle.std.specs.List.{slice_get}
-use Rattle.std.proofs.lemmas.Bool.{cases_eq, eqb-true, and_parts, cond_both}
+use Rattle.std.proofs.lemmas.Bool.{cases_eq, eqb-true, and_parts}
 use Rattle.xp_rules.specs.declared.setup.Link.{Link}
 use Rattle.xp_rules.specs.declared.scenario.Warm.{Warm}
 use Rattle.xp_rules.specs.declared.scenario.Scenario.{Scenario}
-use Rattle.xp_rules.specs.Setup.{IsSize, IsLawfulLink, AreLawfulLinks}
+use Rattle.xp_rules.specs.Setup.{IsSize}
 use Rattle.xp_rules.specs.Scenario.{joins, link_in, links_to, links_from, links_of, setup_of, IsLawfulWarm, AreLawfulWarms, IsLawful}
+use Rattle.xp_rules.specs.State.{start, end_of, warm_end}
+use Rattle.xp_rules.proofs.Opened.{LinkAt, AreLow, link_opened}
 
 -- an item of two lists, one behind the other
 pub get_left : {A : Type 0} (xs ys : List A) (i : ℕ) (x : A) → slice_get xs i ≡ Some x → slice_get (xs ++ ys) i ≡ Some x
@@ -202,11 +204,8 @@ line_in n p q c [] l h e = absurd (cc)
 line_in n p q c (w ∷ ws) l h e = line_by n p q c w ws l (joins p q c w) h.0 refl (line_in n p q c ws l h.1) e
 
 -- a link of p, with its number among them
-pub record HasLink (s : Scenario) (p q c : ℕ) (l : Link) : Type 0 where
-  pub number : ℕ
-  pub listed : slice_get (links_of s p) number ≡ Some l
-  pub partner : l.partner ≡ q
-  pub channel : l.channel ≡ c
+abbrev pub HasLink : Scenario → ℕ → ℕ → ℕ → Link → Type 0
+HasLink s p q c l = LinkAt (setup_of s p) q c l
 
 pub line : (s : Scenario) (p q c : ℕ) (l : Link) → IsLawful s → HasLink s p q c l → IsLine s.count p q c l
 line s p q c l h k =
@@ -223,24 +222,12 @@ mirrored s p q c l h k =
     let r = listed s q p c (mirror p l) (mirror_in p q c s.warms l e) i.first i.channel in
     record { number = r.0; listed = r.1; partner = refl; channel = k.channel }
 
--- there are at most four links to a partner
-link_few : (p q c : ℕ) (ws : List Warm) → length (link_in p q c ws) ≤ 1
-link_few p q c [] = omega arith
-link_few p q c (w ∷ ws) = cond_both (joins p q c w) (seen_as q c w ∷ []) (link_in p q c ws) (λ (ls : List Link). length ls ≤ 1) (λ d. omega arith) (λ d. link_few p q c ws)
-
-few_to : (p q c n : ℕ) (ws : List Warm) → length (links_to p q c n ws) ≤ n
-few_to p q c zero ws = omega arith
-few_to p q c (suc n) ws = omega (arith, length-append (link_in p q c ws) (links_to p q (c + 1) n ws), link_few p q c ws, few_to p q (c + 1) n ws)
-
-few_from : (p q n : ℕ) (ws : List Warm) → length (links_from p q n ws) ≤ 4 * n
-unfolding links_from
-few_from p q zero ws = omega arith
-few_from p q (suc n) ws = omega (arith, length-append (links_to p q 0 4 ws) (links_from p (q + 1) n ws), few_to p q 0 4 ws, few_from p (q + 1) n ws)
-
-pub few_links : (s : Scenario) (p : ℕ) → IsLawful s → length (links_of s p) ≤ 32
-few_links s p h = omega (arith, few_from p 0 s.count s.warms, h.high)
-
--- the setups of a lawful scenario
-pub lawful_links : (s : Scenario) (p : ℕ) (ls : List Link) → ((i : ℕ) (l : Link) → slice_get ls i ≡ Some l → IsLawfulLink (setup_of s p) l) → AreLawfulLinks (setup_of s p) ls
-lawful_links s p [] h = tt
-lawful_links s p (l ∷ ls) h = (h 0 l refl, lawful_links s p ls (λ i k e. h (suc i) k e))
+-- at the opening, the end of each link is connected
+pub start_end : (s : Scenario) (p q c : ℕ) (l : Link) → IsLawful s → (k : HasLink s p q c l) → end_of (start (setup_of s p)) q c ≡ warm_end p k.number l
+start_end s p q c l h k =
+    let low : AreLow (links_of s p) = λ i m e. let d = found s p i m e in (omega (arith, d.1, h.high), d.2) in
+    let o = link_opened (setup_of s p) q c l low k in
+    let same : o.at.number ≡ k.number = once s p o.at.number k.number o.link l o.at.listed k.listed (o.at.partner ∙ sym k.partner) (o.at.channel ∙ sym k.channel) in
+    let both : Some o.link ≡ Some l = sym o.at.listed ∙ ap (slice_get (links_of s p)) same ∙ k.listed in
+    let one : o.link ≡ l = cc in
+    o.is ∙ ap (λ (j : ℕ). warm_end p j o.link) same ∙ ap (λ (x : Link). warm_end p k.number x) one

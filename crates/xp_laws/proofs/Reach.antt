@@ -1,5 +1,5 @@
 -- What holds after every history that is reached, and right before each of its steps.
-use Rattle.std.proofs.Common.{◌≡◌, ℕ, zero, suc, ◌<◌, ◌≤◌, ◌&&◌, Bool, true, false, cond, eqb, List, [], ◌∷◌, ◌++◌, length, get_or, map, refl, ap, sym, ◌∙◌, subst, arith, Option, None, bit_or}
+use Rattle.std.proofs.Common.{◌≡◌, ℕ, zero, suc, ◌<◌, ◌&&◌, Bool, true, false, cond, eqb, List, [], ◌∷◌, ◌++◌, map, refl, ap, sym, ◌∙◌, subst, arith, Option, None, bit_or}
 use Rattle.std.proofs.lemmas.Bool.{eq-eqb, eqb-true, cond_both}
 use Rattle.xp_base.specs.declared.step.Answer.TheVariants.{Word, Failed}
 use Rattle.xp_base.specs.declared.step.OpKind.TheVariants.{Load}
@@ -7,14 +7,13 @@ use Rattle.xp_base.specs.Memory.{Memory}
 use Rattle.xp_base.specs.History.{Act, Turn, Event, Poked, Turned, Legal, happens, turns_of}
 use Rattle.xp_base.specs.Places.{Open, Flag}
 use Rattle.xp_base.proofs.HistoryLemmas.{turns_of-append}
-use Rattle.xp_rules.specs.declared.commands.Command.{Command}
 use Rattle.xp_rules.specs.declared.rule.RingRule.TheVariants.{ReadGet, WriteEntryWord, AcceptMessage}
 use Rattle.xp_rules.specs.declared.rule.Rule.{Rule}
 use Rattle.xp_rules.specs.declared.rule.Rule.TheVariants.{Ring, Pull, Acknowledge, TakeFlags, SetFlag}
 use Rattle.xp_rules.specs.declared.setup.Link.{Link}
 use Rattle.xp_rules.specs.declared.setup.Setup.{Setup}
 use Rattle.xp_rules.specs.declared.scenario.Scenario.{Scenario}
-use Rattle.xp_rules.specs.Setup.{IsSize, IsLawfulSetup}
+use Rattle.xp_rules.specs.Setup.{IsSize}
 use Rattle.std.specs.Prelude.{IsSome}
 use Rattle.xp_rules.specs.Sending.{new_sending, is_bad_get}
 use Rattle.xp_rules.specs.Sending.{Send as Sendable}
@@ -28,39 +27,25 @@ use Rattle.xp_rules.specs.Rules.{Can, kind}
 use Rattle.xp_rules.specs.Flags.{message_flag}
 use Rattle.xp_rules.specs.Acts.{MayAct, must_answer}
 use Rattle.xp_rules.specs.Runs.{MayMake, RunsFrom, after_turn, state_after}
-use Rattle.xp_rules.specs.Scenario.{setup_of, links_of, opening, IsLawful, command_count}
+use Rattle.xp_rules.specs.Scenario.{setup_of, links_of, opening, IsLawful}
 use Rattle.xp_rules.specs.Reached.{AreTurnsOf, ReachedWords}
 use Rattle.xp_rules.specs.Promised.{memory_by, until}
 use Rattle.xp_laws.proofs.Words.{Words, Agrees}
 use Rattle.xp_laws.proofs.Parts.{Part, part_start, part_act, part_acts, part_turn, part_from, part_ruled}
 use Rattle.xp_laws.proofs.Always.{IsPart, at_one, one_kept, one_here, does_rule, told, may_by, acts_at, always}
 use Rattle.xp_laws.proofs.Flags.{HasRequests, Requested, no_requests, request_alone, either_requested}
-use Rattle.xp_laws.proofs.Links.{HasLink, line, mirror, mirrored, few_links, lawful_links}
-use Rattle.xp_laws.proofs.Ends.{start_end, start_fact}
+use Rattle.xp_rules.proofs.Opened.{opened_fact}
+use Rattle.xp_rules.proofs.Setups.{lawful_setup}
+use Rattle.xp_laws.proofs.Links.{HasLink, line, mirror, mirrored, start_end}
 use Rattle.xp_laws.proofs.Notices.{told_none}
 use Rattle.xp_laws.proofs.Direction.{Out, In, Kept, sized_none, none_written}
 use Rattle.xp_laws.proofs.Lines.{Quiet, Good, recorded, strip, out_at, in_at, all_but}
-use Rattle.xp_laws.proofs.Moves.{keeps_act, keeps_rule, keeps_failed}
+use Rattle.xp_laws.proofs.RuleMoves.{keeps_rule, keeps_failed}
+use Rattle.xp_laws.proofs.ActMoves.{keeps_act}
 use Rattle.xp_laws.proofs.Opening.{opening_words, agrees_opening, counter_zero, flag_zero}
 use Rattle.xp_laws.proofs.Clean.{Partners, partners_start, partners_act, partners_rule, partners_failed, no_fault, get_told_good, Unblamed, unblamed_act, unblamed_rule, unblamed_failed}
 use Rattle.xp_laws.proofs.Freed.{Freed}
 use Rattle.xp_laws.proofs.Released.{Released, released_act, released_rule}
-
--- the setups of a lawful scenario
-script_short : (xs : List (List Command)) (p : ℕ) → length (get_or xs p []) ≤ command_count xs
-script_short [] p = omega arith
-script_short (x ∷ xs) zero = omega arith
-script_short (x ∷ xs) (suc p) = omega (arith, script_short xs p)
-
-pub lawful_setup : (s : Scenario) (p : ℕ) → IsLawful s → p < s.count → IsLawfulSetup (setup_of s p)
-lawful_setup s p law l = record {
-  count = law.high;
-  part = l;
-  links = lawful_links s p (links_of s p) (λ i k e. let f = line s p k.partner k.channel k law (record { number = i; listed = e; partner = refl; channel = refl }) in ((f.second, (λ d. f.apart (sym d)), f.channel), f.size));
-  few = few_links s p law;
-  commands = law.commands p l;
-  length = omega (arith, script_short s.scripts p, law.few);
-}
 
 -- all that is known
 pub record Sound (s : Scenario) (law : IsLawful s) (w : Words) (σ : ℕ → Part) : Type 0 where
@@ -203,18 +188,18 @@ module _ (s : Scenario) (law : IsLawful s) where
     good = record {
       fixed = λ p l. record { warm = λ q c. refl; number = λ q c. refl; names = strip_opened (links_of s p) };
       told = λ p l. refl;
-      quiet = λ p l q c. start_fact s p q c Quiet (record { take = λ d. refl; asked = λ d. refl }) (λ n k. record { take = λ d. refl; asked = λ d. refl });
+      quiet = λ p l q c. opened_fact (setup_of s p) q c Quiet (record { take = λ d. refl; asked = λ d. refl }) (λ n k. record { take = λ d. refl; asked = λ d. refl });
       ways = first_ways;
     };
     engaged = λ q. refl;
     requested = λ p q. subst HasRequests (sym (flag_zero s p q)) no_requests;
     partners = λ p l q. partners_start (setup_of s p) q;
     unblamed = λ p l. record { entries = λ i x e. absurd (cc); decided = refl };
-    released = λ p l q c. start_fact s p q c (λ (e : End). Freed [] e.ack) (record { below = λ n k. absurd (omega (arith, k)); above = λ i e. absurd (cc) }) (λ j x. record { below = λ n k. absurd (omega (arith, k)); above = λ i e. absurd (cc) });
+    released = λ p l q c. opened_fact (setup_of s p) q c (λ (e : End). Freed [] e.ack) (record { below = λ n k. absurd (omega (arith, k)); above = λ i e. absurd (cc) }) (λ j x. record { below = λ n k. absurd (omega (arith, k)); above = λ i e. absurd (cc) });
     sends = λ p l. record {
       busy = record {
-        sending = λ q c i. let never : false ≡ true = subst (λ (o : Option Sendable). IsSome o) (start_fact s p q c (λ (e : End). e.send.send ≡ None) refl (λ j x. refl)) i in absurd (cc);
-        owing = λ q c i. absurd (omega (arith, i, start_fact s p q c (λ (e : End). e.ack.front ≡ 0) refl (λ j x. refl)));
+        sending = λ q c i. let never : false ≡ true = subst (λ (o : Option Sendable). IsSome o) (opened_fact (setup_of s p) q c (λ (e : End). e.send.send ≡ None) refl (λ j x. refl)) i in absurd (cc);
+        owing = λ q c i. absurd (omega (arith, i, opened_fact (setup_of s p) q c (λ (e : End). e.ack.front ≡ 0) refl (λ j x. refl)));
       };
       head = λ d q c payload wait notify e. absurd (cc);
       each = λ n x e. absurd (cc);

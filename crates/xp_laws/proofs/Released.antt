@@ -20,7 +20,7 @@ use Rattle.xp_rules.specs.Acts.{upcoming, current, end_begun, begun_with, end_an
 use Rattle.xp_rules.specs.Promised.{with_released, begun_released}
 use Rattle.xp_rules.proofs.Slots.{at_end}
 use Rattle.xp_laws.proofs.Parts.{Part, part_act, part_ruled}
-use Rattle.xp_laws.proofs.Ends.{stays_end, stays_flagged}
+use Rattle.xp_rules.proofs.Ends.{stays_end, stays_flagged}
 use Rattle.xp_laws.proofs.Freed.{Freed, freed_more, freed_unless, unrefused_held, freed_after}
 
 abbrev pub Released : Part → Type 0
@@ -78,7 +78,7 @@ ack_rule k (Ring d e m) (Word v) q c = stays_end (λ (y : End). y.ack) k.state.e
 ack_rule k (Pull d e ReadCounters) (Word v) q c = stays_end (λ (y : End). y.ack) k.state.ends d e (end_pulled ReadCounters v (pull_numbered k.state.copies ReadCounters (end_of k.state d e))) q c refl
 ack_rule k (Pull d e ReadEntry) (Word v) q c = stays_end (λ (y : End). y.ack) k.state.ends d e (end_pulled ReadEntry v (pull_numbered k.state.copies ReadEntry (end_of k.state d e))) q c refl
 ack_rule k (Acknowledge d e) (Word v) q c = stays_end (λ (y : End). y.ack) k.state.ends d e (end_acknowledged (end_of k.state d e)) q c refl
-ack_rule k (TakeFlags d) (Word v) q c = stays_flagged (λ (y : End). y.ack) (λ y. refl) k.state.ends d v q c
+ack_rule k (TakeFlags d) (Word v) q c = stays_flagged (λ (y : End). y.ack) (λ y. refl) v k.state.ends d q c
 ack_rule k (SetFlag d e) (Word v) q c = stays_end (λ (y : End). y.ack) k.state.ends d e (record (end_of k.state d e) { owes_message = false }) q c refl
 ack_rule k (Ring d e m) Failed q c = refl
 ack_rule k (Pull d e ReadCounters) Failed q c = stays_end (λ (y : End). y.ack) k.state.ends d e (record (pull_numbered k.state.copies ReadCounters (end_of k.state d e)) { pull = pull_failed (end_of k.state d e).pull ReadCounters }) q c refl

@@ -27,11 +27,13 @@ use Rattle.xp_rules.specs.Releasing.{release_refusal, released_unless, message_r
 use Rattle.xp_rules.specs.State.{State, Scripted, End, end_of, end_at, set_end, link_of}
 use Rattle.xp_rules.specs.Rules.{Can, kind, send_decided, end_sent, end_pulled, end_acknowledged, pull_numbered}
 use Rattle.xp_base.specs.declared.answer.ReleaseAnswer.{ReleaseAnswer}
-use Rattle.xp_rules.specs.Acts.{MayAct, end_named, partner_named, channel_named, upcoming, current, due, due_to, decided_or, must_answer, is_accepted, send_answered, decided_for, release_told, end_begun, begun_with, held_after, end_answered, ends_answered, end_noticed}
+use Rattle.xp_rules.specs.Acts.{MayAct, end_named, partner_named, channel_named, upcoming, current, due, due_to, decided_or, must_answer, is_accepted, send_answered, decided_for, release_told, end_begun, begun_with, held_after, end_answered, end_noticed}
 use Rattle.xp_rules.specs.Promised.{Sent, Passed, first_of, full_told, first_full, closed_told, first_closed, accepted_told, last_accepted, refused_by, refused_first, first_cause, unless_answered, begun_send, answered_send}
 use Rattle.xp_rules.proofs.Slots.{at_end}
 use Rattle.xp_laws.proofs.Parts.{Part, part_act, part_ruled, passed_by, sends_ruled}
-use Rattle.xp_laws.proofs.Ends.{Other, end_other, end_here, stays_end, stays_flagged}
+use Rattle.xp_rules.proofs.Ends.{Other, here_or, set_other, set_here, stays_end, stays_flagged}
+use Rattle.xp_rules.proofs.Stays.{answers_stay}
+use Rattle.xp_rules.proofs.Targets.{SendsTo, ReleasesAt, not_both, one_send, one_release, send_undue, release_undue, none_some}
 
 -- one step more
 first_of_none : (o : Option SendAnswer) → first_of o None ≡ o
@@ -134,34 +136,10 @@ pub record Doing (su : Setup) (st : State) (P : Command → Type 0) : Type 0 whe
   pub is : P command
 
 abbrev IsSendTo : ℕ → ℕ → Command → Type 0
-IsSendTo q c (Send k d payload wait notify) = (k ≡ q) × (d ≡ c)
-IsSendTo q c (Take k d wait) = ⊥
-IsSendTo q c (Release k d number) = ⊥
-IsSendTo q c (Drain k d) = ⊥
+IsSendTo q c x = SendsTo q c (Some x)
 
 abbrev IsReleaseOf : ℕ → ℕ → Command → Type 0
-IsReleaseOf q c (Send k d payload wait notify) = ⊥
-IsReleaseOf q c (Take k d wait) = ⊥
-IsReleaseOf q c (Release k d number) = (k ≡ q) × (d ≡ c)
-IsReleaseOf q c (Drain k d) = ⊥
-
-send_not_release : (q c k d : ℕ) (x : Command) → IsSendTo q c x → IsReleaseOf k d x → ⊥
-send_not_release q c k d (Send a b payload wait notify) h i = i
-send_not_release q c k d (Take a b wait) h i = i
-send_not_release q c k d (Release a b number) h i = h
-send_not_release q c k d (Drain a b) h i = h
-
-one_send : (q c k d : ℕ) (x : Command) → IsSendTo q c x → IsSendTo k d x → (q ≡ k) × (c ≡ d)
-one_send q c k d (Send a b payload wait notify) h i = (sym h.0 ∙ i.0, sym h.1 ∙ i.1)
-one_send q c k d (Take a b wait) h i = absurd h
-one_send q c k d (Release a b number) h i = absurd h
-one_send q c k d (Drain a b) h i = absurd h
-
-one_release : (q c k d : ℕ) (x : Command) → IsReleaseOf q c x → IsReleaseOf k d x → (q ≡ k) × (c ≡ d)
-one_release q c k d (Send a b payload wait notify) h i = absurd h
-one_release q c k d (Take a b wait) h i = absurd h
-one_release q c k d (Release a b number) h i = (sym h.0 ∙ i.0, sym h.1 ∙ i.1)
-one_release q c k d (Drain a b) h i = absurd h
+IsReleaseOf q c x = ReleasesAt q c (Some x)
 
 module _ (su : Setup) (st : State) where
   same_command : {P : Command → Type 0} {Q : Command → Type 0} → (h : Doing su st P) → (k : Doing su st Q) → h.command ≡ k.command
@@ -276,36 +254,29 @@ module _ (su : Setup) (k : Part) (r : Rule) (b : Answer) (q0 c0 : ℕ) (x : End)
   module _ (ends : (part_ruled k r b).state.ends ≡ set_end k.state.ends q0 c0 x) (none : x.send.send ≡ None) (front : x.ack.front ≡ (end_of k.state q0 c0).ack.front) (stored : x.stored ≡ (end_of k.state q0 c0).stored)
       (begun : (part_ruled k r b).state.script.begun ≡ k.state.script.begun)
       (done : (y : Sent) → y.partner ≡ q0 → y.channel ≡ c0 → Going y (end_of k.state q0 c0) k.state → Done (stepped y (passed_now y)) (part_ruled k r b).state) where
-    no_send_by : (q c : ℕ) → (q ≡ q0) ⊎ (q ≡ q0 → ⊥) → (c ≡ c0) ⊎ (c ≡ c0 → ⊥) → IsSome (end_at (set_end k.state.ends q0 c0 x) q c).send.send → ⊥
-    no_send_by q c (inl e) (inl f) i =
-        let here : IsSome (end_at (set_end k.state.ends q0 c0 x) q0 c0).send.send = subst (λ (j : ℕ). IsSome (end_at (set_end k.state.ends q0 c0 x) j c0).send.send) e (subst (λ (j : ℕ). IsSome (end_at (set_end k.state.ends q0 c0 x) q j).send.send) f i) in
-        let new : IsSome x.send.send = subst (λ (y : End). IsSome y.send.send) (end_here k.state.ends q0 c0 x warm) here in
-        let never : false ≡ true = subst (λ (o : Option Sendable). IsSome o) none new in
-        absurd (cc)
-    no_send_by q c (inl e) (inr n) i = no_other_send q c (λ a b. n b) (subst (λ (y : End). IsSome y.send.send) (end_other k.state.ends q0 c0 x q c (λ a b. n b)) i)
-      where
-        no_other_send : (q c : ℕ) → Other q c q0 c0 → IsSome (end_of k.state q c).send.send → ⊥
-        no_other_send q c o j =
-            let d = h.busy.sending q c j in
-            let s = one_send q c q0 c0 d.command d.is (subst (IsSendTo q0 c0) (same_command su k.state doing_now d) doing_now.is) in
-            o s.0 s.1
-    no_send_by q c (inr n) f i = no_other_send q c (λ a b. n a) (subst (λ (y : End). IsSome y.send.send) (end_other k.state.ends q0 c0 x q c (λ a b. n a)) i)
-      where
-        no_other_send : (q c : ℕ) → Other q c q0 c0 → IsSome (end_of k.state q c).send.send → ⊥
-        no_other_send q c o j =
-            let d = h.busy.sending q c j in
-            let s = one_send q c q0 c0 d.command d.is (subst (IsSendTo q0 c0) (same_command su k.state doing_now d) doing_now.is) in
-            o s.0 s.1
+    no_other_send : (q c : ℕ) → Other q c q0 c0 → IsSome (end_of k.state q c).send.send → ⊥
+    no_other_send q c o j =
+        let d = h.busy.sending q c j in
+        let s = one_send q c q0 c0 (Some d.command) d.is (subst (IsSendTo q0 c0) (same_command su k.state doing_now d) doing_now.is) in
+        o s.0 s.1
+
+    no_send_at : (q c : ℕ) → IsSome (end_at (set_end k.state.ends q0 c0 x) q c).send.send → ⊥
+    no_send_at q c i = elim (here_or ⊥ q c q0 c0 (λ o. no_other_send q c o (subst (λ (y : End). IsSome y.send.send) (set_other k.state.ends q0 c0 x q c o) i))) [
+      | inl e ↦
+          let new : end_at (set_end k.state.ends q0 c0 x) q c ≡ x = (λ j. end_at (set_end k.state.ends q0 c0 x) (e.0 j) (e.1 j)) ∙ set_here k.state.ends q0 c0 x warm in
+          none_some x.send.send none (subst (λ (y : End). IsSome y.send.send) new i)
+      | inr n ↦ n
+    ]
 
     no_send : (q c : ℕ) → IsSome (end_of ended_part.state q c).send.send → ⊥
-    no_send q c i = no_send_by q c (cases_eq q q0) (cases_eq c c0) (subst (λ (es : List (List End)). IsSome (end_at es q c).send.send) ends i)
+    no_send q c i = no_send_at q c (subst (λ (es : List (List End)). IsSome (end_at es q c).send.send) ends i)
 
     none_owed : (q c : ℕ) → (end_of ended_part.state q c).stored < (end_of ended_part.state q c).ack.front → ⊥
     none_owed q c l =
         let f = ap (λ (es : List (List End)). (end_at es q c).ack.front) ends ∙ stays_end (λ (y : End). y.ack.front) k.state.ends q0 c0 x q c front in
         let g = ap (λ (es : List (List End)). (end_at es q c).stored) ends ∙ stays_end (λ (y : End). y.stored) k.state.ends q0 c0 x q c stored in
         let d = h.busy.owing q c (omega (arith, l, f, g)) in
-        send_not_release q0 c0 q c d.command (subst (IsSendTo q0 c0) (same_command su k.state doing_now d) doing_now.is) d.is
+        not_both q0 c0 q c (Some d.command) (subst (IsSendTo q0 c0) (same_command su k.state doing_now d) doing_now.is) d.is
 
     stage_done : (q c : ℕ) (y : Sent) → q ≡ q0 → c ≡ c0 → y.partner ≡ q → y.channel ≡ c → Done y k.state ⊎ Going y (end_of k.state q c) k.state → Done (stepped y (passed_now y)) ended_part.state
     stage_done q c y a d ep ec (inl (inl g)) = let e : None ≡ Some (SendAnswered g.0) = sym doing_now.undecided ∙ g.1 in absurd (cc)
@@ -427,12 +398,12 @@ module _ (su : Setup) (k : Part) (q0 c0 v : ℕ) (can : Can su k.state (Acknowle
 
   other_owes : (q c : ℕ) → Other q c q0 c0 → (end_of acknowledged.state q c).stored < (end_of acknowledged.state q c).ack.front → ⊥
   other_owes q c o l =
-      let d = h.busy.owing q c (subst (λ (y : End). y.stored < y.ack.front) (end_other k.state.ends q0 c0 (end_acknowledged got_end) q c o) l) in
-      let s = one_release q c q0 c0 d.command d.is (subst (IsReleaseOf q0 c0) (same_command su k.state releasing d) releasing.is) in
+      let d = h.busy.owing q c (subst (λ (y : End). y.stored < y.ack.front) (set_other k.state.ends q0 c0 (end_acknowledged got_end) q c o) l) in
+      let s = one_release q c q0 c0 (Some d.command) d.is (subst (IsReleaseOf q0 c0) (same_command su k.state releasing d) releasing.is) in
       o s.0 s.1
 
   here_owes : (end_of acknowledged.state q0 c0).stored < (end_of acknowledged.state q0 c0).ack.front → ⊥
-  here_owes l = let f : got_end.ack.front < got_end.ack.front = subst (λ (y : End). y.stored < y.ack.front) (end_here k.state.ends q0 c0 (end_acknowledged got_end) can.0.warm) l in absurd (omega (arith, f))
+  here_owes l = let f : got_end.ack.front < got_end.ack.front = subst (λ (y : End). y.stored < y.ack.front) (set_here k.state.ends q0 c0 (end_acknowledged got_end) can.0.warm) l in absurd (omega (arith, f))
 
   owes_by : (q c : ℕ) → (q ≡ q0) ⊎ (q ≡ q0 → ⊥) → (c ≡ c0) ⊎ (c ≡ c0 → ⊥) → (end_of acknowledged.state q c).stored < (end_of acknowledged.state q c).ack.front → ⊥
   owes_by q c (inl e) (inl f) l = here_owes (subst (λ (y : End). y.stored < y.ack.front) (λ i. end_of acknowledged.state (e i) (f i)) l)
@@ -445,7 +416,7 @@ module _ (su : Setup) (k : Part) (q0 c0 v : ℕ) (can : Can su k.state (Acknowle
   pub sends_acknowledge : Sends su acknowledged
   sends_acknowledge = record {
     busy = record {
-      sending = λ q c i. let d = h.busy.sending q c (subst (λ (o : Option Sendable). IsSome o) (send_kept q c) i) in absurd (send_not_release q c q0 c0 d.command d.is (subst (IsReleaseOf q0 c0) (same_command su k.state releasing d) releasing.is));
+      sending = λ q c i. let d = h.busy.sending q c (subst (λ (o : Option Sendable). IsSome o) (send_kept q c) i) in absurd (not_both q c q0 c0 (Some d.command) d.is (subst (IsReleaseOf q0 c0) (same_command su k.state releasing d) releasing.is));
       owing = λ q c l. absurd (owes_by q c (cases_eq q q0) (cases_eq c c0) l);
     };
     head = λ d q c payload wait notify e.
@@ -486,7 +457,7 @@ sends_rule su k (Pull q c m) v calm can good h =
 sends_rule su k (Acknowledge q c) v calm can good h = sends_acknowledge su k q c v can h
 sends_rule su k (TakeFlags q) v calm can good h =
     passes su k (TakeFlags q) (Word v) calm h refl
-    (λ a b. stays_flagged face (λ e. refl) k.state.ends q v a b)
+    (λ a b. stays_flagged face (λ e. refl) v k.state.ends q a b)
     (λ a b y ep ec g. no_plain y)
 sends_rule su k (SetFlag q c) v calm can good h =
     passes su k (SetFlag q c) (Word v) calm h refl
@@ -580,7 +551,7 @@ module _ (su : Setup) (st : State) (xs : List Sent) (idle : st.script.doing ≡ 
         let decided : decided_for sending_end sending_now ≡ None = λ i. cond (e i) (send_answered (cond (f i) (Some (TooBig (length payload) sending_end.send.limit)) (link_refusal (cond (e i) Connected Idle)))) (Some (SendAnswered NotConnected)) in
         let refused : refused_first sending_end payload ≡ None = λ i. cond (e i && f i) (Some (TooBig (length payload) sending_end.send.limit)) (refused_by (cond (e i) Connected Idle)) in
         let began : end_begun sending_end sending_now ≡ record sending_end { send = record sending_end.send { send = Some sd; stored = 0 } } = λ i. cond (e i) (record sending_end { send = begun_unless (cond (f i) (Some (TooBig (length payload) sending_end.send.limit)) (link_refusal (cond (e i) Connected Idle))) sd sending_end.send }) sending_end in
-        let here : end_of started q c ≡ record sending_end { send = record sending_end.send { send = Some sd; stored = 0 } } = end_here st.ends q c (end_begun sending_end sending_now) e ∙ began in
+        let here : end_of started q c ≡ record sending_end { send = record sending_end.send { send = Some sd; stored = 0 } } = set_here st.ends q c (end_begun sending_end sending_now) e ∙ began in
         inr (record {
           undecided = decided;
           unrefused = refused;
@@ -634,32 +605,8 @@ answered_face e = take_face e.pull.empty
     take_face None = refl
     take_face (Some put) = refl
 
-send_answered_kept : (st : State) (x : Option Command) (b : Option LogAnswer) (q c : ℕ) → face (end_at (ends_answered st x b) q c) ≡ face (end_of st q c)
-send_answered_kept st None b q c = refl
-send_answered_kept st (Some (Send k d payload wait notify)) b q c = refl
-send_answered_kept st (Some (Release k d number)) b q c = refl
-send_answered_kept st (Some (Drain k d)) b q c = refl
-send_answered_kept st (Some (Take k d wait)) None q c = stays_end face st.ends k d (end_answered (end_of st k d)) q c (answered_face (end_of st k d))
-send_answered_kept st (Some (Take k d wait)) (Some a) q c = refl
-
-due_of_send : (st : State) (q c : ℕ) (x : Command) → IsSendTo q c x → due_to st (Some x) ≡ None
-due_of_send st q c (Send k d payload wait notify) i = refl
-due_of_send st q c (Take k d wait) i = absurd i
-due_of_send st q c (Release k d number) i = absurd i
-due_of_send st q c (Drain k d) i = absurd i
-
-due_of_release : (st : State) (q c : ℕ) (x : Command) → IsReleaseOf q c x → due_to st (Some x) ≡ None
-due_of_release st q c (Send k d payload wait notify) i = absurd i
-due_of_release st q c (Take k d wait) i = absurd i
-due_of_release st q c (Release k d number) i = refl
-due_of_release st q c (Drain k d) i = absurd i
-
 none_due : (su : Setup) (st : State) (P : Command → Type 0) → ((x : Command) → P x → due_to st (Some x) ≡ None) → Doing su st P → due su st ≡ None
 none_due su st P f d = (λ i. cond (d.doing i) (decided_or (d.undecided i) (due_to st (d.now i))) None) ∙ f d.command d.is
-
-no_some : {A : Type 0} (o : Option A) → o ≡ None → IsSome o → ⊥
-no_some None e i = cc
-no_some (Some a) e i = cc
 
 pub is_doing : (b : Bool) (o : Option LogAnswer) → IsSome (cond b o None) → b ≡ true
 is_doing true o i = refl
@@ -737,8 +684,8 @@ pub sends_act : (su : Setup) (k : Part) (x : Act) → MayAct su k.state x → Se
 sends_act su k Begun may h = begun_any su k.state k.sends may.0 h (upcoming su k.state) refl
 sends_act su k Answered may h = record {
   busy = record {
-    sending = λ q c i. let d = h.busy.sending q c (subst (λ (x : Face). IsSome x.send) (send_answered_kept k.state (current su k.state) k.state.script.decided q c) i) in absurd (no_some (due su k.state) (none_due su k.state (IsSendTo q c) (due_of_send k.state q c) d) may);
-    owing = λ q c l. let d = h.busy.owing q c (subst (λ (x : Face). x.stored < x.front) (send_answered_kept k.state (current su k.state) k.state.script.decided q c) l) in absurd (no_some (due su k.state) (none_due su k.state (IsReleaseOf q c) (due_of_release k.state q c) d) may);
+    sending = λ q c i. let d = h.busy.sending q c (subst (λ (x : Face). IsSome x.send) (answers_stay face answered_face k.state (current su k.state) k.state.script.decided q c) i) in absurd (none_some (due su k.state) (none_due su k.state (IsSendTo q c) (λ x. send_undue k.state (Some x) q c) d) may);
+    owing = λ q c l. let d = h.busy.owing q c (subst (λ (x : Face). x.stored < x.front) (answers_stay face answered_face k.state (current su k.state) k.state.script.decided q c) l) in absurd (none_some (due su k.state) (none_due su k.state (IsReleaseOf q c) (λ x. release_undue k.state (Some x) q c) d) may);
   };
   head = λ d q c payload wait notify e. absurd (cc);
   each = each_answered su k.state k.sends may h (current su k.state) refl;
