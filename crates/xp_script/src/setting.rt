@@ -77,7 +77,7 @@ pub fn faults_for(alloc: Global, faults: &Faults, part: PartId) -> Result<Marks,
 }
 
 /// A partition's part of a scenario.
-#[tactic(auto, using(crate::proofs::Settings::lawful_setup))]
+#[tactic(auto, using(xp_rules::proofs::Setups::lawful_setup))]
 pub fn setup_for(alloc: Global, scenario: &Scenario, part: PartId) -> Result<Setup, AllocError>
     requires lawful { IsLawful scenario.now }
     requires part { part < scenario.now.count }
