@@ -1,5 +1,5 @@
 -- Each count of a partition is at most the number of its turns.
-use Rattle.std.proofs.Common.{◌≡◌, ℕ, zero, suc, ◌+◌, ◌^◌, ◌≤◌, Bool, true, false, cond, List, [], ◌∷◌, ◌++◌, length, get_or, replicate, refl, subst, sym, arith, Option, Some, None, nat_eq}
+use Rattle.std.proofs.Common.{◌≡◌, ℕ, zero, suc, ◌+◌, ◌^◌, ◌≤◌, Bool, true, false, cond, List, [], ◌∷◌, ◌++◌, length, refl, subst, sym, arith, Option, Some, None, nat_eq}
 use Rattle.xp_base.specs.declared.step.Answer.{Answer}
 use Rattle.xp_base.specs.declared.step.Answer.TheVariants.{Word, Failed}
 use Rattle.xp_base.specs.declared.step.Step.{Step}
@@ -16,19 +16,19 @@ use Rattle.xp_rules.specs.declared.rule.PullRule.{PullRule}
 use Rattle.xp_rules.specs.declared.rule.PullRule.TheVariants.{ReadCounters, ReadEntry}
 use Rattle.xp_rules.specs.declared.rule.Rule.{Rule}
 use Rattle.xp_rules.specs.declared.rule.Rule.TheVariants.{Ring, Pull, Acknowledge, TakeFlags, SetFlag}
-use Rattle.xp_rules.specs.declared.setup.Link.{Link}
 use Rattle.xp_rules.specs.declared.setup.Setup.{Setup}
 use Rattle.xp_rules.specs.Sending.{Sending, Send as SendGoing, send_over, get_known, is_bad_get, is_full, ring_after, begun_unless, send_refusal}
 use Rattle.xp_rules.specs.Pulling.{Pulling, Beside, pull_after, pull_heard, get_heard, counters_after, entry_after, entry_copied, entry_fault, pull_failed, is_bad_counter, is_bad_put, shown_empty, taking_unless, take_refusal, take_answered}
-use Rattle.xp_rules.specs.State.{State, End, start, end_at, end_of, set_end, idle_end, warm_end, opened_ends, idle_ends, link_of}
+use Rattle.xp_rules.specs.State.{State, End, start, end_at, end_of, set_end, idle_end, warm_end, link_of}
 use Rattle.xp_rules.specs.Rules.{after_answer, ends_after, ends_failed, copies_after, pull_numbered, end_pulled, begun_more, beside_of, partner_of}
 use Rattle.xp_rules.specs.Acts.{after_act, after_acts, begun_with, upcoming, current, end_begun, end_named, ends_answered, end_noticed, partner_named, channel_named}
 use Rattle.xp_rules.specs.Runs.{after_ruled, after_step, after_turn, state_after}
 use Rattle.xp_rules.specs.Decode.{rule_of}
 use Rattle.xp_rules.proofs.Slots.{at_end}
-use Rattle.xp_duties.proofs.Ends.{owed_end, at_flagged}
+use Rattle.xp_rules.proofs.Opened.{opened_fact}
+use Rattle.xp_rules.proofs.Ends.{owed_end, at_flagged}
 use Rattle.xp_node.specs.declared.turns.Made.{Made}
-use Rattle.xp_node.specs.End.{HasEndRoom}
+use Rattle.xp_channel.specs.End.{HasEndRoom}
 use Rattle.xp_node.specs.Held.{HasRoom, channel_of, begun_acts, noticed_acts, answered_acts, told_acts}
 use Rattle.xp_node.specs.Turns.{turn_of, turns_from, steps_left}
 use Rattle.xp_node.proofs.Noticing.{acts-append}
@@ -250,28 +250,8 @@ turns_bounded s st (m ∷ ms) xs n k b =
 zero_end : (e : End) → e.send.put ≡ 0 → e.pull.taken ≡ 0 → EndBounded e 0 0
 zero_end e a b = record { put = omega (arith, a); taken = omega (arith, b) }
 
-row_idle : (n c : ℕ) → EndBounded (get_or (replicate n idle_end) c idle_end) 0 0
-row_idle zero c = zero_end idle_end refl refl
-row_idle (suc n) zero = zero_end idle_end refl refl
-row_idle (suc n) (suc c) = row_idle n c
-
-rows_idle : (n q c : ℕ) → EndBounded (get_or (get_or (replicate n (replicate 4 idle_end)) q []) c idle_end) 0 0
-rows_idle zero q c = zero_end idle_end refl refl
-rows_idle (suc n) zero c = row_idle 4 c
-rows_idle (suc n) (suc q) c = rows_idle n q c
-
-all_idle : AllBounded idle_ends 0 0
-unfolding idle_ends AllBounded
-all_idle = λ q c. rows_idle 8 q c
-
-opened_bounded : (part n : ℕ) (ls : List Link) (ends : List (List End)) → AllBounded ends 0 0 → AllBounded (opened_ends part n ls ends) 0 0
-opened_bounded part n [] ends each = each
-opened_bounded part n (l ∷ ls) ends each =
-    opened_bounded part (n + 1) ls (set_end ends l.partner l.channel (warm_end part n l)) (set_bounded ends l.partner l.channel (warm_end part n l) 0 0 (zero_end (warm_end part n l) refl refl) each)
-
 start_bounded : (s : Setup) → IsBounded (start s) 0 0
-unfolding AllBounded
-start_bounded s = record { counters = omega arith; get = omega arith; entries = omega arith; ends = opened_bounded s.part 0 s.links idle_ends all_idle }
+start_bounded s = record { counters = omega arith; get = omega arith; entries = omega arith; ends = λ q c. opened_fact s q c (λ (y : End). EndBounded y 0 0) (zero_end idle_end refl refl) (λ l k. zero_end (warm_end s.part k.number l) refl refl) }
 
 end_room : (e : End) (n k : ℕ) → n ≤ 2 ^ 63 → k ≤ 2 ^ 63 → EndBounded e n k → HasEndRoom e
 end_room e n k hn hk b = record { put = omega (arith, hn, b.put); taken = omega (arith, hk, b.taken) }

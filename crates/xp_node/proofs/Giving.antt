@@ -13,7 +13,7 @@ use Rattle.xp_rules.specs.Acts.{after_act, after_acts, MayActs, below, due, noti
 use Rattle.xp_rules.specs.Logged.{Logged, logged_act, logged_acts, records_noticed}
 use Rattle.xp_node.specs.Held.{IsNoticedBut, channel_of, noticed_acts, answered_acts, told_acts}
 use Rattle.xp_node.specs.Kept.{Falls, Gives}
-use Rattle.xp_duties.proofs.Ends.{set_here, set_other, stays_end}
+use Rattle.xp_rules.proofs.Ends.{set_here, set_other, stays_end}
 use Rattle.xp_node.proofs.Noticing.{acts-append, may-append, logged-append, more_state, more_may, more_logged, due_noticed}
 
 pub gives_none : (st : State) (g : Logged) (q c : ℕ) → Gives st st g g q c 0

@@ -3,10 +3,10 @@ use Rattle.std.proofs.Common.{◌≡◌, ℕ, zero, suc, ◌<◌, List, [], ◌�
 use Rattle.xp_rules.specs.declared.commands.Command.{Command}
 use Rattle.xp_rules.specs.declared.commands.Command.TheVariants.{Send, Take, Release, Drain}
 use Rattle.xp_rules.specs.Acts.{partner_named, channel_named}
-use Rattle.xp_node.specs.End.{IsShort}
+use Rattle.xp_channel.specs.End.{IsShort}
 use Rattle.xp_rules.specs.declared.setup.Link.{Link}
 use Rattle.xp_rules.specs.declared.setup.Setup.{Setup}
-use Rattle.xp_rules.specs.Setup.{IsPeer, IsSize, IsLawfulLink, AreLawfulLinks, IsLawfulCommand, AreLawfulCommands}
+use Rattle.xp_rules.specs.Setup.{IsPeer, IsSize, IsLawfulLink, AreLawfulLinks, IsLawfulCommand}
 
 pub link_at : (s : Setup) (ls : List Link) (i : ℕ) (d : Link) → AreLawfulLinks s ls → i < length ls → IsLawfulLink s (get_or ls i d)
 link_at s [] i d a h = absurd (omega arith)
@@ -20,16 +20,6 @@ pub link_is : (ls : List Link) (i : ℕ) (l : Link) → i < length ls → l ≡ 
 link_is [] i l h e = absurd (omega arith)
 link_is (x ∷ ls) zero l h e = ap (λ (y : Link). Some y) (sym e)
 link_is (x ∷ ls) (suc i) l h e = link_is ls i l (omega arith) e
-
-pub link_in : (s : Setup) (ls : List Link) (i : ℕ) (l : Link) → AreLawfulLinks s ls → slice_get ls i ≡ Some l → IsLawfulLink s l
-link_in s [] i l a e = absurd (cc)
-link_in s (x ∷ ls) zero l a e = let f : x ≡ l = cc in subst (λ (y : Link). IsLawfulLink s y) f a.0
-link_in s (x ∷ ls) (suc i) l a e = link_in s ls i l a.1 e
-
-pub command_at : (s : Setup) (xs : List Command) (i : ℕ) (x : Command) → AreLawfulCommands s xs → slice_get xs i ≡ Some x → IsLawfulCommand s x
-command_at s [] i x a e = absurd (cc)
-command_at s (y ∷ xs) zero x a e = let P : Command → Type 0 = λ z. IsLawfulCommand s z in let f : y ≡ x = cc in subst P f a.0
-command_at s (y ∷ xs) (suc i) x a e = command_at s xs i x a.1 e
 
 pub short : (s : Setup) (x : Command) → IsLawfulCommand s x → IsShort x
 short s (Send q c payload wait notify) h = h.1

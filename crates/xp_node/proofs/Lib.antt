@@ -12,5 +12,4 @@ pub mod Steps
 pub mod Connected
 pub mod Places
 pub mod Flagging
-pub mod Sound
 pub mod Rooms

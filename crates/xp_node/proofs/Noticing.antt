@@ -1,5 +1,5 @@
 -- Notices that are due are given at the end of the step, and then none is due anywhere.
-use Rattle.std.proofs.Common.{◌≡◌, ℕ, zero, suc, ◌+◌, Bool, true, false, cond, List, [], ◌∷◌, ◌++◌, get_or, replicate, refl, ap, sym, ◌∙◌, subst, inl, inr, ◌⊎◌, Option, Some, None}
+use Rattle.std.proofs.Common.{◌≡◌, ℕ, zero, suc, ◌+◌, Bool, true, false, cond, List, [], ◌∷◌, ◌++◌, refl, ap, sym, ◌∙◌, subst, inl, inr, ◌⊎◌, Option, Some, None}
 use Rattle.std.specs.Prelude.{IsSome}
 use Rattle.std.proofs.lemmas.Bool.{cases_eq}
 use Rattle.std.proofs.lemmas.List.{replicate-append-replicate}
@@ -12,19 +12,20 @@ use Rattle.xp_rules.specs.declared.commands.Command.TheVariants.{Send, Take, Rel
 use Rattle.xp_rules.specs.declared.log.LogAnswer.{LogAnswer}
 use Rattle.xp_rules.specs.declared.rule.Rule.{Rule}
 use Rattle.xp_rules.specs.declared.rule.Rule.TheVariants.{Ring, Pull, Acknowledge, TakeFlags, SetFlag}
-use Rattle.xp_rules.specs.declared.setup.Link.{Link}
 use Rattle.xp_rules.specs.declared.setup.Setup.{Setup}
 use Rattle.xp_rules.specs.Sending.{Send as Sendable, send_refusal, begun_unless}
 use Rattle.xp_rules.specs.Pulling.{Pulling, take_due}
-use Rattle.xp_rules.specs.State.{State, End, start, end_at, end_of, set_end, idle_end, warm_end, opened_ends, idle_ends, link_of}
+use Rattle.xp_rules.specs.State.{State, End, start, end_of, link_of}
 use Rattle.xp_rules.specs.Rules.{after_answer}
-use Rattle.xp_rules.specs.Acts.{MayActs, after_act, after_acts, begun_with, upcoming, current, due, due_to, decided_or, take_told, drained, notice_due, end_begun, end_noticed, end_answered, ends_answered, partner_named, channel_named}
+use Rattle.xp_rules.specs.Acts.{MayActs, after_act, after_acts, begun_with, upcoming, current, due, due_to, decided_or, take_told, drained, notice_due, end_begun, end_noticed, partner_named, channel_named}
 use Rattle.xp_rules.specs.Runs.{RunsFrom, after_turn, state_after}
 use Rattle.xp_rules.specs.Logged.{Logged, logged_act, logged_acts}
 use Rattle.xp_rules.specs.Windows.{answers}
 use Rattle.xp_rules.proofs.Slots.{at_end}
+use Rattle.xp_rules.proofs.Opened.{opened_fact}
+use Rattle.xp_rules.proofs.Stays.{at_answered}
 use Rattle.xp_node.specs.Held.{IsNoticed, IsNoticedBut, IsNoticedAt, begun_acts, noticed_acts, answered_acts}
-use Rattle.xp_duties.proofs.Ends.{set_other, stays_end, at_flagged}
+use Rattle.xp_rules.proofs.Ends.{set_other, stays_end, at_flagged}
 
 -- acts, one after the other
 pub acts-append : (s : Setup) (st : State) (xs ys : List Act) → after_acts s st (xs ++ ys) ≡ after_acts s (after_acts s st xs) ys
@@ -76,16 +77,8 @@ pub began_noticed : (s : Setup) (st : State) (b : Bool) → IsNoticed st → IsN
 began_noticed s st true h = begun_noticed st (upcoming s st) h
 began_noticed s st false h = h
 
-ends_noticed : (st : State) (o : Option Command) (a : Option LogAnswer) → IsNoticed st → (q c : ℕ) → notice_due (end_at (ends_answered st o a) q c) ≡ None
-ends_noticed st (Some (Take k d wait)) None h q c = at_end (λ (y : End). notice_due y ≡ None) st.ends k d (end_answered (end_of st k d)) q c (λ e f. h k d) (h q c)
-ends_noticed st (Some (Take k d wait)) (Some a) h q c = h q c
-ends_noticed st (Some (Send k d payload wait notify)) a h q c = h q c
-ends_noticed st (Some (Release k d number)) a h q c = h q c
-ends_noticed st (Some (Drain k d)) a h q c = h q c
-ends_noticed st None a h q c = h q c
-
 pub answered_noticed : (s : Setup) (st : State) (b : Bool) → IsNoticed st → IsNoticed (after_acts s st (answered_acts b))
-answered_noticed s st true h = λ q c. ends_noticed st (current s st) st.script.decided h q c
+answered_noticed s st true h = λ q c. at_answered (λ (y : End). notice_due y ≡ None) (λ e k. k) st (current s st) st.script.decided q c (h q c)
 answered_noticed s st false h = h
 
 -- a step makes notices due at its own end alone, and a partner's flags make none due
@@ -135,26 +128,8 @@ due_noticed s st k d zero = refl
 due_noticed s st k d (suc n) = due_noticed s (after_act s st (Noticed k d)) k d n ∙ due_after s st k d
 
 -- at the opening none is due, and so it is between turns
-row_idle : (n c : ℕ) → notice_due (get_or (replicate n idle_end) c idle_end) ≡ None
-row_idle zero c = refl
-row_idle (suc n) zero = refl
-row_idle (suc n) (suc c) = row_idle n c
-
-rows_idle : (n q c : ℕ) → notice_due (get_or (get_or (replicate n (replicate 4 idle_end)) q []) c idle_end) ≡ None
-rows_idle zero q c = refl
-rows_idle (suc n) zero c = row_idle 4 c
-rows_idle (suc n) (suc q) c = rows_idle n q c
-
-all_idle : (q c : ℕ) → notice_due (end_at idle_ends q c) ≡ None
-unfolding idle_ends
-all_idle q c = rows_idle 8 q c
-
-opened : (part n : ℕ) (ls : List Link) (ends : List (List End)) → ((q c : ℕ) → notice_due (end_at ends q c) ≡ None) → (q c : ℕ) → notice_due (end_at (opened_ends part n ls ends) q c) ≡ None
-opened part n [] ends each = each
-opened part n (l ∷ ls) ends each = opened part (n + 1) ls (set_end ends l.partner l.channel (warm_end part n l)) (λ q c. at_end (λ (y : End). notice_due y ≡ None) ends l.partner l.channel (warm_end part n l) q c (λ e f. refl) (each q c))
-
 start_noticed : (s : Setup) → IsNoticed (start s)
-start_noticed s = opened s.part 0 s.links idle_ends all_idle
+start_noticed s = λ q c. opened_fact s q c (λ (y : End). notice_due y ≡ None) refl (λ l k. refl)
 
 between : (s : Setup) (st : State) (ts : List Turn) → RunsFrom s st ts → IsNoticed st → IsNoticed (state_after s st ts)
 between s st [] r h = h

@@ -5,7 +5,8 @@ use Rattle.std.proofs.lemmas.Bool.{or_left, or_right}
 use Rattle.xp_rules.specs.declared.commands.Command.{Command}
 use Rattle.xp_rules.specs.Setup.{IsPeer, IsLawfulSetup}
 use Rattle.xp_rules.specs.Acts.{current, partner_named, channel_named}
-use Rattle.xp_node.proofs.Lawful.{link_in, command_at, peer}
+use Rattle.xp_rules.proofs.Lawful.{lawful_link, lawful_command}
+use Rattle.xp_node.proofs.Lawful.{peer}
 use Rattle.xp_rules.specs.declared.rule.PullRule.TheVariants.{ReadCounters}
 use Rattle.xp_rules.specs.declared.rule.Rule.{Rule}
 use Rattle.xp_rules.specs.declared.rule.Rule.TheVariants.{Ring, Pull, Acknowledge, TakeFlags, SetFlag}
@@ -37,7 +38,7 @@ each s st q c (Some r) u h = makes_end s st q c r u h
 -- what the end of the command in progress makes next is permitted
 pub planned : (s : Setup) (st : State) (x : Command) (q c : ℕ) (o : Option Rule) → IsLawfulSetup s → current s st ≡ Some x → q ≡ partner_named x → c ≡ channel_named x → is_some (engage_of st q).reason ≡ false → (end_of st q c).warm ≡ true → IfSome o (λ r. EndMakes (end_of st q c) q c r) → IfSome o (λ r. Can s st r)
 planned s st x q c o l e f g free warm h =
-    let p = peer s x (command_at s s.script (st.script.begun - 1) x l.commands e) in
+    let p = peer s x (lawful_command s s.script (st.script.begun - 1) x l.commands e) in
     let P : ℕ → Type 0 = λ y. IsPeer s.part s.count y c in
     let Q : ℕ → Type 0 = λ y. IsPeer s.part s.count (partner_named x) y in
     each s st q c o (record { peer = subst P (sym f) (subst Q (sym g) p); warm = warm; free = none_left (engage_of st q).reason free }) h
@@ -64,6 +65,6 @@ served s st q c (suc (suc j)) u = loaded_if s st q c (is_some (end_of st q c).pu
 
 pub link_served : (s : Setup) (st : State) (i j q c : ℕ) (l : Link) (o : Option Rule) → IsLawfulSetup s → AreConnected s st → slice_get s.links i ≡ Some l → q ≡ l.partner → c ≡ l.channel → is_some (engage_of st q).reason ≡ false → o ≡ service st q c j → IfSome o (λ r. Can s st r)
 link_served s st i j q c l o h on e f g free k =
-    let u : IsPeer s.part s.count q c = subst (λ (y : ℕ). IsPeer s.part s.count y c) (sym f) (subst (λ (z : ℕ). IsPeer s.part s.count l.partner z) (sym g) (link_in s s.links i l h.links e).0) in
+    let u : IsPeer s.part s.count q c = subst (λ (y : ℕ). IsPeer s.part s.count y c) (sym f) (subst (λ (z : ℕ). IsPeer s.part s.count l.partner z) (sym g) (lawful_link s s.links i l h.links e).0) in
     let w : (end_of st q c).warm ≡ true = ap (λ (y : ℕ). (end_of st y c).warm) f ∙ ap (λ (z : ℕ). (end_of st l.partner z).warm) g ∙ on i l e in
     subst (λ (x : Option Rule). IfSome x (λ r. Can s st r)) (sym k) (served s st q c j (record { peer = u; warm = w; free = none_left (engage_of st q).reason free }))

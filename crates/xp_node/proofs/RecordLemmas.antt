@@ -1,17 +1,12 @@
 -- One record of a list changes.
-use Rattle.std.proofs.Common.{◌≡◌, ℕ, zero, suc, ◌+◌, ◌<◌, ◌≤◌, List, [], ◌∷◌, length, get_or, set, map, refl, ap, sym, ◌∙◌, subst, arith, ◌⊎◌, inl, inr, get_or-set_same, get_or-set_other, Option, Some, None}
+use Rattle.std.proofs.Common.{◌≡◌, ℕ, zero, suc, ◌+◌, ◌*◌, ◌<◌, ◌≤◌, List, [], ◌∷◌, length, get_or, set, map, refl, ap, sym, ◌∙◌, subst, arith, ◌⊎◌, inl, inr, get_or-set_same, get_or-set_other, Some}
 use Rattle.std.proofs.lemmas.Bool.{cases_eq}
 use Rattle.xp_rules.specs.declared.log.Entry.{Entry}
-use Rattle.xp_base.specs.declared.answer.TakeAnswer.TheVariants.{Taken, Empty, Disconnecting, NotConnected}
-use Rattle.xp_rules.specs.declared.commands.Command.{Command}
-use Rattle.xp_rules.specs.declared.commands.Command.TheVariants.{Send, Take, Release, Drain}
 use Rattle.xp_rules.specs.declared.log.LogAnswer.{LogAnswer}
-use Rattle.xp_rules.specs.declared.log.LogAnswer.TheVariants.{Send as SendAnswered, Take as TakeAnswered, Release as ReleaseAnswered, Drain as DrainAnswered}
 use Rattle.xp_rules.specs.declared.records.Record.{Record}
 use Rattle.xp_rules.specs.Records.{Recorded, seen, accepted_room, taken_room, asked_room, delivered_room, update_at}
-use Rattle.xp_rules.specs.State.{State}
-use Rattle.xp_rules.specs.Logged.{records_taken, last_answered}
-use Rattle.xp_node.specs.Kept.{least, records_room, RoomFalls, Falls, take_place, taken_at}
+use Rattle.xp_rules.specs.Logged.{last_answered}
+use Rattle.xp_node.specs.Kept.{least, records_room, RoomFalls, Falls}
 
 pub update_set : (rs : List Record) (i : ℕ) (x d : Record) (f : Recorded → Recorded) → i < length rs → seen x ≡ f (seen (get_or rs i d)) → map seen (set rs i x) ≡ update_at (map seen rs) i f
 update_set [] i x d f h e = absurd (omega arith)
@@ -40,23 +35,9 @@ least_set f (r ∷ rs) zero k x d h e = omega arith
 least_set f (r ∷ rs) (suc i) k x d h e = omega (arith, least_set f rs i k x d (omega arith) e)
 
 -- where each count is at least so much, the least is
-pub least_all : (f : Record → ℕ) (n : ℕ) (rs : List Record) → n ≤ 8 → ((i : ℕ) (d : Record) → i < length rs → n ≤ f (get_or rs i d)) → n ≤ least f rs
+pub least_all : (f : Record → ℕ) (n : ℕ) (rs : List Record) → n ≤ 64 → ((i : ℕ) (d : Record) → i < length rs → n ≤ f (get_or rs i d)) → n ≤ least f rs
 least_all f n [] low h = omega (arith, low)
 least_all f n (r ∷ rs) low h = omega (arith, h 0 r (omega arith), least_all f n rs low (λ i d l. h (suc i) d (omega arith)))
-
-pub taken_is : (st : State) (x : Option Command) (a : Option LogAnswer) (rs : List Recorded) → records_taken st x a rs ≡ taken_at (take_place st x) a rs
-taken_is st None a rs = refl
-taken_is st (Some (Send q c payload wait notify)) a rs = refl
-taken_is st (Some (Release q c number)) a rs = refl
-taken_is st (Some (Drain q c)) a rs = refl
-taken_is st (Some (Take q c wait)) None rs = refl
-taken_is st (Some (Take q c wait)) (Some (SendAnswered a)) rs = refl
-taken_is st (Some (Take q c wait)) (Some (ReleaseAnswered a)) rs = refl
-taken_is st (Some (Take q c wait)) (Some (DrainAnswered a)) rs = refl
-taken_is st (Some (Take q c wait)) (Some (TakeAnswered (Taken number body))) rs = refl
-taken_is st (Some (Take q c wait)) (Some (TakeAnswered (Empty put))) rs = refl
-taken_is st (Some (Take q c wait)) (Some (TakeAnswered (Disconnecting r))) rs = refl
-taken_is st (Some (Take q c wait)) (Some (TakeAnswered NotConnected)) rs = refl
 
 -- the same of an element that was read
 pub read_set : (rs : List Record) (i : ℕ) (x y : Record) (f : Recorded → Recorded) → i < length rs → y ≡ get_or rs i y → seen x ≡ f (seen y) → map seen (set rs i x) ≡ update_at (map seen rs) i f
@@ -86,28 +67,28 @@ falls_on xs ys zs a t k d f g = record { accepted = omega (arith, f.accepted, g.
 pub read_room : (f : Record → ℕ) (rs : List Record) (i : ℕ) (y : Record) → i < length rs → y ≡ get_or rs i y → 0 < least f rs → 0 < f y
 read_room f rs i y h e s = let g : f y ≡ f (get_or rs i y) = ap f e in omega (arith, g, s, least_at f rs i y h)
 
--- a record has room for a turn
-pub record HasTurnRoom (r : Record) : Type 0 where
-  pub accepted : 1 ≤ accepted_room r
-  pub taken : 1 ≤ taken_room r
-  pub asked : 1 ≤ asked_room r
-  pub delivered : 8 ≤ delivered_room r
+-- a record has room for some turns
+pub record HasTurnRoom (n : ℕ) (r : Record) : Type 0 where
+  pub accepted : n ≤ accepted_room r
+  pub taken : n ≤ taken_room r
+  pub asked : n ≤ asked_room r
+  pub delivered : 8 * n ≤ delivered_room r
 
-room_by : (rs : List Record) (i : ℕ) (x : Record) → i < length rs → ((k : ℕ) (d : Record) → k < i → HasTurnRoom (get_or rs k d)) → HasTurnRoom x → (k : ℕ) (d : Record) → k < i + 1 → (k ≡ i) ⊎ (k ≡ i → ⊥) → HasTurnRoom (get_or (set rs i x) k d)
-room_by rs i x h each r k d l (inl e) = subst HasTurnRoom (sym (ap (λ (j : ℕ). get_or (set rs i x) j d) e ∙ get_or-set_same rs i x d h)) r
-room_by rs i x h each r k d l (inr n) = subst HasTurnRoom (sym (get_or-set_other rs i k x d n)) (each k d (omega (arith, l, n)))
+room_by : (n : ℕ) (rs : List Record) (i : ℕ) (x : Record) → i < length rs → ((k : ℕ) (d : Record) → k < i → HasTurnRoom n (get_or rs k d)) → HasTurnRoom n x → (k : ℕ) (d : Record) → k < i + 1 → (k ≡ i) ⊎ (k ≡ i → ⊥) → HasTurnRoom n (get_or (set rs i x) k d)
+room_by n rs i x h each r k d l (inl e) = subst (λ (y : Record). HasTurnRoom n y) (sym (ap (λ (j : ℕ). get_or (set rs i x) j d) e ∙ get_or-set_same rs i x d h)) r
+room_by n rs i x h each r k d l (inr o) = subst (λ (y : Record). HasTurnRoom n y) (sym (get_or-set_other rs i k x d o)) (each k d (omega (arith, l, o)))
 
 -- each record before one has room, and then that one too
-pub room_more : (rs : List Record) (i : ℕ) (x : Record) → i < length rs → ((k : ℕ) (d : Record) → k < i → HasTurnRoom (get_or rs k d)) → HasTurnRoom x → (k : ℕ) (d : Record) → k < i + 1 → HasTurnRoom (get_or (set rs i x) k d)
-room_more rs i x h each r k d l = room_by rs i x h each r k d l (cases_eq k i)
+pub room_more : (n : ℕ) (rs : List Record) (i : ℕ) (x : Record) → i < length rs → ((k : ℕ) (d : Record) → k < i → HasTurnRoom n (get_or rs k d)) → HasTurnRoom n x → (k : ℕ) (d : Record) → k < i + 1 → HasTurnRoom n (get_or (set rs i x) k d)
+room_more n rs i x h each r k d l = room_by n rs i x h each r k d l (cases_eq k i)
 
 -- and then there is room in all
-pub room_all : (rs : List Record) → ((i : ℕ) (d : Record) → i < length rs → HasTurnRoom (get_or rs i d)) → 0 < records_room rs
-room_all rs each =
-    let a = least_all accepted_room 1 rs (omega arith) (λ i d l. (each i d l).accepted) in
-    let t = least_all taken_room 1 rs (omega arith) (λ i d l. (each i d l).taken) in
-    let k = least_all asked_room 1 rs (omega arith) (λ i d l. (each i d l).asked) in
-    let d = least_all delivered_room 8 rs (omega arith) (λ i d l. (each i d l).delivered) in
+pub room_all : (n : ℕ) (rs : List Record) → n ≤ 8 → ((i : ℕ) (d : Record) → i < length rs → HasTurnRoom n (get_or rs i d)) → n ≤ records_room rs
+room_all n rs low each =
+    let a = least_all accepted_room n rs (omega (arith, low)) (λ i d l. (each i d l).accepted) in
+    let t = least_all taken_room n rs (omega (arith, low)) (λ i d l. (each i d l).taken) in
+    let k = least_all asked_room n rs (omega (arith, low)) (λ i d l. (each i d l).asked) in
+    let d = least_all delivered_room (8 * n) rs (omega (arith, low)) (λ i d l. (each i d l).delivered) in
     omega (arith, a, t, k, d)
 
 pub set_last : (log : List Entry) (i : ℕ) (y : Entry) (a : LogAnswer) → i + 1 ≡ length log → y ≡ get_or log i y → set log i (record y { answer = Some a }) ≡ last_answered log (Some a)

@@ -1,47 +1,31 @@
 -- The steps that a node wants, and room for its counts.
-use Rattle.std.proofs.Common.{◌≡◌, ℕ, zero, suc, ◌+◌, ◌-◌, ◌^◌, ◌<◌, ◌≤◌, Bool, true, false, cond, List, length, slice_get, refl, ap, sym, ◌∙◌, subst, arith, Option, Some, None}
-use Rattle.std.specs.Prelude.{IfSome, IsSome}
+use Rattle.std.proofs.Common.{◌≡◌, ℕ, zero, suc, ◌+◌, ◌^◌, ◌<◌, ◌≤◌, Bool, true, false, List, length, refl, ap, sym, subst, arith, Option, Some, None}
+use Rattle.std.specs.Prelude.{IfSome}
 use Rattle.xp_base.specs.declared.step.OpKind.TheVariants.{Load}
 use Rattle.xp_base.specs.declared.step.Answer.{Answer}
 use Rattle.xp_base.specs.declared.step.Step.{Step}
-use Rattle.xp_base.specs.declared.link.LinkState.TheVariants.{Idle, Connected}
 use Rattle.xp_base.specs.History.{Noticed}
-use Rattle.xp_base.specs.declared.answer.TakeAnswer.{TakeAnswer}
-use Rattle.xp_rules.specs.declared.log.LogAnswer.{LogAnswer}
-use Rattle.xp_base.specs.Places.{Place, Open, Record, Flag, Args, Counter, Entry, Pool, Beyond, IsWithin, index_of}
 use Rattle.xp_rules.specs.declared.commands.Command.{Command}
-use Rattle.xp_rules.specs.declared.commands.Command.TheVariants.{Send, Take, Release, Drain}
 use Rattle.xp_rules.specs.declared.rule.RingRule.TheVariants.{ReadGet, WriteEntryWord, AcceptMessage}
 use Rattle.xp_rules.specs.declared.rule.Rule.{Rule}
 use Rattle.xp_rules.specs.declared.rule.Rule.TheVariants.{Ring, Pull, Acknowledge, TakeFlags, SetFlag}
 use Rattle.xp_rules.specs.declared.setup.Setup.{Setup}
 use Rattle.xp_rules.specs.Setup.{IsLawfulSetup}
-use Rattle.xp_rules.specs.Pulling.{Pulling, found, found_by, take_refusal, taking_unless}
 use Rattle.xp_rules.specs.State.{State, End, start, end_of}
 use Rattle.xp_rules.specs.Rules.{Can, place, kind, mark_of, wanted_of, after_answer, partner_of}
-use Rattle.xp_rules.specs.Acts.{after_act, after_acts, MayActs, begun_with, upcoming, current, due, due_to, decided_or, decided_for, take_told, end_begun, end_named, end_noticed}
+use Rattle.xp_rules.specs.Acts.{after_act, after_acts, MayActs, begun_with, upcoming, end_noticed}
 use Rattle.xp_rules.specs.Runs.{state_after}
-use Rattle.xp_rules.proofs.Undo.{within, owner_low}
+use Rattle.xp_rules.proofs.Undo.{within, owner_low, index_low}
 use Rattle.xp_node.specs.declared.kept.Kept.{Kept}
 use Rattle.xp_node.specs.declared.turns.Made.{Made}
 use Rattle.xp_node.specs.declared.turns.Waiting.{Waiting}
-use Rattle.xp_node.specs.Held.{HasRoom, IsNoticed, AreConnected, IsUnshownAt, IsUnanswered, channel_of, begun_acts, noticed_acts}
+use Rattle.xp_node.specs.Held.{HasRoom, IsNoticed, AreConnected, channel_of, begun_acts, noticed_acts}
 use Rattle.xp_node.specs.Node.{IsStep}
 use Rattle.xp_node.specs.Turns.{made_turns, waiting_for, Tie}
 use Rattle.xp_node.proofs.Bounds.{IsBounded, began_bounded, answered_bounded, room_of, kept_bounded}
 use Rattle.xp_node.proofs.Connected.{acts_connected, turns_warm}
-use Rattle.xp_duties.proofs.Ends.{set_here, stays_end}
+use Rattle.xp_rules.proofs.Ends.{stays_end}
 use Rattle.xp_node.proofs.Noticing.{began_noticed, turns_noticed}
-
-index_low : (pl : Place) → IsWithin pl → index_of pl < 5912
-index_low (Open o) h = omega arith
-index_low (Record q f) h = omega arith
-index_low (Flag q) h = omega arith
-index_low (Args q c f) h = omega arith
-index_low (Counter q c f) h = omega arith
-index_low (Entry q c k f) h = omega arith
-index_low (Pool b f) h = omega arith
-index_low Beyond h = absurd h
 
 loads : (st : State) (r : Rule) → IfSome (mark_of st r) (λ mark. kind st r ≡ Load)
 loads st (Ring q c ReadGet) = refl
@@ -121,56 +105,3 @@ can_low s st (Pull q c m) l h = (omega (arith, h.0.peer.0, l.count), h.0.peer.2)
 can_low s st (Acknowledge q c) l h = (omega (arith, h.0.peer.0, l.count), h.0.peer.2)
 can_low s st (TakeFlags q) l h = (omega (arith, h.low, l.count), omega arith)
 can_low s st (SetFlag q c) l h = (omega (arith, h.0.peer.0, l.count), h.0.peer.2)
-
--- the take in progress wasn't shown an empty queue: else its answer was given
-found_none : (n : ℕ) (o : Option ℕ) (cache : List (List ℕ)) → found n o cache ≡ None → o ≡ None
-found_none n None cache e = refl
-found_none n (Some put) cache e = absurd (cc)
-
-undue_take : (o : Option TakeAnswer) → take_told o ≡ None → o ≡ None
-undue_take None e = refl
-undue_take (Some a) e = absurd (cc)
-
-unshown_by : (o : Option Bool) (p : Pulling) → take_told (found_by o p) ≡ None → IsSome o → p.empty ≡ None
-unshown_by None p e h = absurd (cc)
-unshown_by (Some wait) p e h = found_none p.taken p.empty p.cache (undue_take (found p.taken p.empty p.cache) e)
-
-unshown_at : (st : State) (o : Option Command) → due_to st o ≡ None → IsUnshownAt st o
-unshown_at st None e = tt
-unshown_at st (Some (Send q c payload wait notify)) e = λ w. tt
-unshown_at st (Some (Take q c wait)) e = λ w h. unshown_by (end_of st q c).pull.take (end_of st q c).pull e h
-unshown_at st (Some (Release q c number)) e = λ w. tt
-unshown_at st (Some (Drain q c)) e = λ w. tt
-
-later_none : (b : Bool) (d later : Option LogAnswer) → b ≡ true → d ≡ None → cond b (decided_or d later) None ≡ None → later ≡ None
-later_none true None later e f g = g
-later_none true (Some a) later e f g = absurd (cc)
-later_none false d later e f g = absurd (cc)
-
-warm_by : (b : Bool) → take_told (take_refusal (cond b Connected Idle)) ≡ None → b ≡ true
-warm_by true e = refl
-warm_by false e = absurd (cc)
-
-begun_empty : (b wait : Bool) (p : Pulling) → b ≡ true → (taking_unless (take_refusal (cond b Connected Idle)) wait p).empty ≡ None
-begun_empty true wait p e = refl
-begun_empty false wait p e = absurd (cc)
-
-unshown_begun : (st : State) (x : Command) → decided_for (end_named st x) x ≡ None → IsUnshownAt (begun_with st (Some x)) (Some x)
-unshown_begun st (Send q c payload wait notify) d = λ w. tt
-unshown_begun st (Take q c wait) d = λ w h.
-    let e = end_of st q c in
-    let warm = warm_by e.warm d in
-    ap (λ (y : End). y.pull.empty) (set_here st.ends q c (end_begun e (Take q c wait)) warm) ∙ begun_empty e.warm wait e.pull warm
-unshown_begun st (Release q c number) d = λ w. tt
-unshown_begun st (Drain q c) d = λ w. tt
-
-begun_unanswered : (s : Setup) (st : State) (o : Option Command) → upcoming s st ≡ o → st.script.doing ≡ false → IsUnanswered s (begun_with st o)
-begun_unanswered s st None e f = λ d u. absurd (cc)
-begun_unanswered s st (Some x) e f = λ d u.
-    let k : st.script.begun + 1 - 1 ≡ st.script.begun = omega arith in
-    let now : slice_get s.script (st.script.begun + 1 - 1) ≡ Some x = ap (λ (n : ℕ). slice_get s.script n) k ∙ e in
-    subst (λ (o : Option Command). IsUnshownAt (begun_with st (Some x)) o) (sym now) (unshown_begun st x u)
-
-pub unanswered : (s : Setup) (st st1 : State) (kept : Kept) (ms : List Made) (xs : List Step) (done b : Bool) (place : ℕ) → Tie s st kept ms xs None done place → st1 ≡ after_acts s st (begun_acts b) → MayActs s st (begun_acts b) → IsUnanswered s st1
-unanswered s st st1 kept ms xs done true place t e m = subst (λ (x : State). IsUnanswered s x) (sym e) (begun_unanswered s st (upcoming s st) refl m.0.0)
-unanswered s st st1 kept ms xs done false place t e m = subst (λ (x : State). IsUnanswered s x) (sym e) (λ d u. unshown_at st (current s st) (later_none st.script.doing st.script.decided (due_to st (current s st)) d u (ap (λ (x : State). due s x) t.state ∙ t.settled)))

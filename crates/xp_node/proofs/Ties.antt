@@ -5,15 +5,15 @@ use Rattle.std.specs.Global.{Global}
 use Rattle.std.specs.declared.vec.Vec.{Vec}
 use Rattle.xp_base.specs.declared.step.Answer.{Answer}
 use Rattle.xp_rules.specs.declared.log.Entry.{Entry}
-use Rattle.xp_rules.specs.declared.log.LogAnswer.{LogAnswer}
 use Rattle.xp_rules.specs.declared.records.Record.{Record}
 use Rattle.xp_rules.specs.declared.rule.Rule.{Rule}
 use Rattle.xp_rules.specs.Records.{Recorded, seen}
-use Rattle.xp_rules.specs.Rules.{Can, op_of, mark_of, wanted_of, after_answer, partner_of}
+use Rattle.xp_rules.specs.Rules.{Can, op_of, mark_of, wanted_of, after_answer}
 use Rattle.xp_rules.specs.Acts.{after_acts, MayActs, due, must_answer}
-use Rattle.xp_node.specs.Held.{IsNoticed, channel_of, begun_acts, noticed_acts, answered_acts, told_acts}
+use Rattle.xp_node.specs.Held.{IsNoticed, begun_acts, answered_acts, told_acts}
 use Rattle.xp_duties.specs.Plan.{position, plan, first_rule, service_at, script_plan}
 use Rattle.xp_duties.specs.Diligent.{CanBegin, IsDiligent, AreDiligent}
+use Rattle.xp_base.specs.declared.step.Op.{Op}
 use Rattle.xp_base.specs.declared.step.Step.{Step}
 use Rattle.xp_base.specs.History.{Turn}
 use Rattle.xp_rules.specs.declared.setup.Setup.{Setup}
@@ -30,7 +30,6 @@ use Rattle.xp_node.proofs.Places.{plan_at, comes_next}
 use Rattle.xp_duties.proofs.Windows.{windows}
 use Rattle.xp_rules.specs.Windows.{Windows}
 use Rattle.xp_node.specs.Turns.{next_place, turn_of, made_turns, rule_count, step_count, Tie}
-use Rattle.xp_node.proofs.Noticing.{acts-append, due_noticed}
 use Rattle.xp_node.proofs.Does.{Does, quiet, loud}
 use Rattle.xp_node.proofs.Diligence.{AreDiligent-push, quiet_diligent, loud_diligent}
 use Rattle.xp_node.proofs.Pushes.{state_after-push, RunsFrom-push, logged_from-push, turns_from-push, step_count-push, length-turns_from}
@@ -42,8 +41,8 @@ numbered s ms xs st t i = let e : length ms ≡ 0 + length (made_turns s ms xs) 
 one_longer : (ms ms' : List Made) (m : Made) → ms' ≡ ms ++ m ∷ [] → length ms' ≡ length ms + 1
 one_longer ms ms' m e = omega (arith, ap length e, length-append ms (m ∷ []))
 
-pub tied : (s : Setup) (kept kept' : Kept) (ms ms' : List Made) (xs xs' new : List Step) (m : Made) (st' : State) (done' : Bool) (place' : ℕ) → IsLawfulSetup s → Runs s (made_turns s ms xs) → AreDiligent s 0 (start s) (made_turns s ms xs) → IsDiligent s (length ms) (state_after s (start s) (made_turns s ms xs)) (turn_of s (state_after s (start s) (made_turns s ms xs)) m new) → length xs ≡ step_count ms → logged_of kept ≡ logged_after s (made_turns s ms xs) → Does s (state_after s (start s) (made_turns s ms xs)) m new st' (logged_of kept) (logged_of kept') → ms' ≡ ms ++ m ∷ [] → xs' ≡ xs ++ new → length new ≡ rule_count m.rule → done' ≡ is_done s st' → due s st' ≡ None → place' ≡ position s (length ms + 1) → Tie s st' kept' ms' xs' None done' place'
-tied s kept kept' ms ms' xs xs' new m st' done' place' l r ds i h g d em ex n e settled comes =
+pub tied : (s : Setup) (kept kept' : Kept) (ms ms' : List Made) (xs xs' new : List Step) (m : Made) (st' : State) (done' : Bool) (place' : ℕ) → IsLawfulSetup s → Runs s (made_turns s ms xs) → AreDiligent s 0 (start s) (made_turns s ms xs) → IsDiligent s (length ms) (state_after s (start s) (made_turns s ms xs)) (turn_of s (state_after s (start s) (made_turns s ms xs)) m new) → length xs ≡ step_count ms → logged_of kept ≡ logged_after s (made_turns s ms xs) → Does s (state_after s (start s) (made_turns s ms xs)) m new st' (logged_of kept) (logged_of kept') → ms' ≡ ms ++ m ∷ [] → xs' ≡ xs ++ new → length new ≡ rule_count m.rule → done' ≡ is_done s st' → place' ≡ position s (length ms + 1) → Tie s st' kept' ms' xs' None done' place'
+tied s kept kept' ms ms' xs xs' new m st' done' place' l r ds i h g d em ex n e comes =
     let ts = made_turns s ms xs in
     let old = state_after s (start s) ts in
     let t = turn_of s old m new in
@@ -60,42 +59,26 @@ tied s kept kept' ms ms' xs xs' new m st' done' place' l r ds i h g d em ex n e 
       steps = omega (arith, ap length ex, length-append xs new, h, n, step_count-push ms m, ap step_count em);
       logged = d.logged ∙ ap (λ (x : Logged). logged_turn s old t x) g ∙ sym (logged_from-push s (start s) ts t (logged_start s)) ∙ ap (λ (us : List Turn). logged_after s us) (sym p);
       ended = e ∙ ap (λ (x : State). is_done s x) after;
-      settled = ap (λ (x : State). due s x) (sym after) ∙ settled;
       comes = comes ∙ ap (λ (k : ℕ). position s k) (sym (one_longer ms ms' m em));
     }
-
--- after a turn's end no answer is due
-none_if : (o : Option LogAnswer) → (IsSome o → false ≡ true) → o ≡ None
-none_if None h = refl
-none_if (Some a) h = absurd (let e = h refl in cc)
-
-settled : (s : Setup) (st : State) (b : Bool) → (IsSome (due s st) → b ≡ true) → due s (after_acts s st (answered_acts b)) ≡ None
-settled s st true h = refl
-settled s st false h = none_if (due s st) h
-
-settled_after : (s : Setup) (st : State) (r : Rule) (n : ℕ) (b : Bool) → (IsSome (due s st) → b ≡ true) → due s (after_acts s st (told_acts (Some r) n b)) ≡ None
-settled_after s st r n b h =
-    let acts = noticed_acts (partner_of r) (channel_of r) n in
-    ap (λ (x : State). due s x) (acts-append s st acts (answered_acts b)) ∙ settled s (after_acts s st acts) b (λ i. h (subst (λ (o : Option LogAnswer). IsSome o) (due_noticed s st (partner_of r) (channel_of r) n) i))
 
 -- what is kept, by its two lists
 kept_is : (k : Kept) (log : List Entry) (records : List Recorded) → k.log.items ≡ log → map seen k.records.items ≡ records → logged_of k ≡ record { entries = log; records = records }
 kept_is k log records e f = λ i. record { entries = e i; records = f i }
 
 -- a step waits
-pub waiting_tied : (s : Setup) (st st1 : State) (kept : Kept) (ms : List Made) (xs : List Step) (r : Rule) (b done : Bool) (place : ℕ) → Tie s st kept ms xs None done place → is_done s st ≡ false → st1 ≡ after_acts s st (begun_acts b) → MayActs s st (begun_acts b) → (CanBegin s st → b ≡ true) → Can s st1 r → first_rule (service_at s place st1) (script_plan s st1) ≡ Some r → Tie s st1 kept ms xs (Some (record { rule = r; began = b })) done place
-waiting_tied s st st1 kept ms xs r b done place t run e may begin can planned =
+pub waiting_tied : (s : Setup) (st st1 : State) (kept : Kept) (ms : List Made) (xs : List Step) (r : Rule) (op : Op) (b done : Bool) (place : ℕ) → Tie s st kept ms xs None done place → is_done s st ≡ false → st1 ≡ after_acts s st (begun_acts b) → MayActs s st (begun_acts b) → (CanBegin s st → b ≡ true) → Can s st1 r → first_rule (service_at s place st1) (script_plan s st1) ≡ Some r → op ≡ op_of s st1 r → Tie s st1 kept ms xs (Some (record { rule = r; op = op; began = b })) done place
+waiting_tied s st st1 kept ms xs r op b done place t run e may begin can planned does =
     let before = state_after s (start s) (made_turns s ms xs) in
     record {
       lawful = t.lawful;
       runs = t.runs;
       diligent = t.diligent;
       state = e ∙ ap (λ (x : State). after_acts s x (begun_acts b)) t.state;
-      waits = (can, subst (λ (x : State). MayActs s x (begun_acts b)) t.state may, sym (ap (λ (x : State). is_done s x) t.state) ∙ run, subst (λ (x : State). CanBegin s x → b ≡ true) t.state begin, plan_at s place (length ms) st1 t.comes ∙ planned);
+      waits = (can, subst (λ (x : State). MayActs s x (begun_acts b)) t.state may, sym (ap (λ (x : State). is_done s x) t.state) ∙ run, subst (λ (x : State). CanBegin s x → b ≡ true) t.state begin, plan_at s place (length ms) st1 t.comes ∙ planned, does);
       steps = t.steps;
       logged = t.logged;
       ended = t.ended;
-      settled = t.settled;
       comes = t.comes;
     }
 
@@ -108,7 +91,7 @@ quiet_tied s st st1 st2 kept k1 k2 ms ms' xs b1 b2 done done' place place' t run
     let D : State → Type 0 = λ x. Does s x (record { began = b1; rule = None; noticed = 0; answered = b2 }) [] st2 g (logged_of k2) in
     let I : State → Type 0 = λ x. IsDiligent s (length ms) x (turn_of s x (record { began = b1; rule = None; noticed = 0; answered = b2 }) []) in
     let i = quiet_diligent s (length ms) st st1 b1 b2 e1 begin none answer in
-    tied s kept k2 ms ms' xs xs [] (record { began = b1; rule = None; noticed = 0; answered = b2 }) st2 done' place' t.lawful t.runs t.diligent (subst I t.state i) t.steps t.logged (subst D t.state d) em (sym (append-nil xs)) refl ed (ap (λ (x : State). due s x) e2 ∙ settled s st1 b2 answer) (next ∙ comes_next s place (length ms) t.comes)
+    tied s kept k2 ms ms' xs xs [] (record { began = b1; rule = None; noticed = 0; answered = b2 }) st2 done' place' t.lawful t.runs t.diligent (subst I t.state i) t.steps t.logged (subst D t.state d) em (sym (append-nil xs)) refl ed (next ∙ comes_next s place (length ms) t.comes)
 
 pub quiet_turns : (s : Setup) (ms ms' : List Made) (m : Made) (xs : List Step) → length xs ≡ step_count ms → ms' ≡ ms ++ m ∷ [] → made_turns s ms' xs ≡ made_turns s ms xs ++ turn_of s (state_after s (start s) (made_turns s ms xs)) m [] ∷ []
 quiet_turns s ms ms' m xs h e = ap (λ (ys : List Made). made_turns s ys xs) e ∙ ap (λ (ys : List Step). made_turns s (ms ++ m ∷ []) ys) (sym (append-nil xs)) ∙ turns_from-push s (start s) ms m xs [] h
@@ -122,7 +105,7 @@ loud_tied s st st2 st3 kept k1 k2 k3 ms ms' xs xs' w a x n b2 done done' place p
     let f2 : logged_of k2 ≡ record (logged_of k1) { records = records_answered st (Some w.rule) a (logged_of k1).records } = kept_is k2 _ _ (ap (λ (v : Vec Entry Global). v.items) k2l) k2r in
     let d = loud s old st st2 st3 w.began w.rule a n b2 x g (logged_of k1) (logged_of k2) (logged_of k3) t.lawful t.waits.2 t.state t.waits.1 t.waits.0 fa ex e2 e3 m3 told silent f1 f2 l in
     let i = loud_diligent s (length ms) old st st2 w.began w.rule a n b2 x t.lawful t.state t.waits.0 ex e2 t.waits.3 t.waits.4 answer in
-    tied s kept k3 ms ms' xs xs' (x ∷ []) (record { began = w.began; rule = Some w.rule; noticed = n; answered = b2 }) st3 done' place' t.lawful t.runs t.diligent i t.steps t.logged d em exs refl ed (ap (λ (x : State). due s x) e3 ∙ settled_after s st2 w.rule n b2 answer) (next ∙ comes_next s place (length ms) t.comes)
+    tied s kept k3 ms ms' xs xs' (x ∷ []) (record { began = w.began; rule = Some w.rule; noticed = n; answered = b2 }) st3 done' place' t.lawful t.runs t.diligent i t.steps t.logged d em exs refl ed (next ∙ comes_next s place (length ms) t.comes)
 
 -- the turn of a step that was answered
 pub loud_turn : (s : Setup) (st : State) (w : Waiting) (a : Answer) (x : Step) (n : ℕ) (b2 : Bool) (old : State) → st ≡ after_acts s old (begun_acts w.began) → x ≡ record { op = op_of s st w.rule; answer = a } → (turn_of s old (record { began = w.began; rule = Some w.rule; noticed = n; answered = b2 }) (x ∷ [])).made ≡ Some (answered_by (wanted_of s st w.rule) a)

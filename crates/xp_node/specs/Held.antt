@@ -1,7 +1,6 @@
 -- What the machines of a partition ask for besides the rules: room in their counts, and that the rule is one that they plan; and the acts of a turn.
 use Rattle.std.specs.Prelude.{◌≡◌, ℕ, ◌-◌, ◌<◌, ◌^◌, Bool, true, if◌then◌else◌, List, [], ◌∷◌, ◌++◌, replicate, slice_get, Option, Some, None, IsSome}
 use Rattle.xp_base.specs.History.{Act, Begun, Answered, Noticed}
-use Rattle.xp_rules.specs.declared.commands.Command.{Command}
 use Rattle.xp_rules.specs.declared.copies.Copies.{Copies}
 use Rattle.xp_rules.specs.declared.rule.PullRule.{PullRule}
 use Rattle.xp_rules.specs.declared.rule.PullRule.TheVariants.{ReadCounters, ReadEntry}
@@ -13,8 +12,8 @@ use Rattle.xp_rules.specs.declared.setup.Link.{Link}
 use Rattle.xp_rules.specs.declared.setup.Setup.{Setup}
 use Rattle.xp_rules.specs.State.{State, End, end_of}
 use Rattle.xp_rules.specs.Rules.{begun_more, partner_of}
-use Rattle.xp_rules.specs.Acts.{current, end_named, notice_due}
-use Rattle.xp_node.specs.End.{HasEndRoom, IsUnshownFor}
+use Rattle.xp_rules.specs.Acts.{notice_due}
+use Rattle.xp_channel.specs.End.{HasEndRoom}
 
 -- no count is near its type's end
 pub record HasRoom (st : State) : Type 0 where
@@ -30,14 +29,6 @@ IsNoticed st = (q c : ℕ) → notice_due (end_of st q c) ≡ None
 -- none is due but at one end
 abbrev pub IsNoticedBut : ℕ → ℕ → State → Type 0
 IsNoticedBut k d st = (q c : ℕ) → (q ≡ k → c ≡ d → ⊥) → notice_due (end_of st q c) ≡ None
-
--- the take in progress wasn't shown an empty queue
-abbrev pub IsUnshownAt : State → Option Command → Type 0
-IsUnshownAt st None = Unit {0}
-IsUnshownAt st (Some x) = (end_named st x).warm ≡ true → IsUnshownFor (end_named st x) x
-
-abbrev pub IsUnanswered : Setup → State → Type 0
-IsUnanswered s st = st.script.doing ≡ true → st.script.decided ≡ None → IsUnshownAt st (current s st)
 
 -- a rule that one end can follow
 abbrev pub EndMakes : End → ℕ → ℕ → Rule → Type 0

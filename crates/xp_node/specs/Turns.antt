@@ -7,8 +7,8 @@ use Rattle.xp_rules.specs.declared.rule.Rule.{Rule}
 use Rattle.xp_rules.specs.declared.setup.Setup.{Setup}
 use Rattle.xp_rules.specs.Setup.{IsLawfulSetup}
 use Rattle.xp_rules.specs.State.{State, start}
-use Rattle.xp_rules.specs.Rules.{Can, mark_of, wanted_of}
-use Rattle.xp_rules.specs.Acts.{due, after_acts, MayActs}
+use Rattle.xp_rules.specs.Rules.{Can, mark_of, op_of, wanted_of}
+use Rattle.xp_rules.specs.Acts.{after_acts, MayActs}
 use Rattle.xp_rules.specs.Runs.{Runs, is_done, state_after, after_turn}
 use Rattle.xp_rules.specs.Logged.{logged_after}
 use Rattle.xp_node.specs.declared.kept.Kept.{Kept}
@@ -62,10 +62,10 @@ abbrev pub next_place : Setup → ℕ → ℕ
 next_place s place = if nat_lt (place + 1) (8 * length s.links) then place + 1 else 0
 
 -- a step waits only where its rule can be followed and is the one planned for the turn of this number, a command was begun if one could
--- be, and the node ran
+-- be, and the node ran; what is kept of the step is what the rule does
 abbrev pub WaitsWell : Setup → ℕ → State → State → Option Waiting → Type 0
 WaitsWell s number before st None = Unit {0}
-WaitsWell s number before st (Some w) = Can s st w.rule × MayActs s before (begun_acts w.began) × (is_done s before ≡ false) × (CanBegin s before → w.began ≡ true) × (plan s number st ≡ Some w.rule)
+WaitsWell s number before st (Some w) = Can s st w.rule × MayActs s before (begun_acts w.began) × (is_done s before ≡ false) × (CanBegin s before → w.began ≡ true) × (plan s number st ≡ Some w.rule) × (w.op ≡ op_of s st w.rule)
 
 -- how what a node keeps stands for its turns
 pub record Tie (s : Setup) (st : State) (kept : Kept) (ms : List Made) (xs : List Step) (w : Option Waiting) (done : Bool) (place : ℕ) : Type 0 where
@@ -77,5 +77,4 @@ pub record Tie (s : Setup) (st : State) (kept : Kept) (ms : List Made) (xs : Lis
   pub steps : length xs ≡ step_count ms
   pub logged : logged_of kept ≡ logged_after s (made_turns s ms xs)
   pub ended : done ≡ is_done s (state_after s (start s) (made_turns s ms xs))
-  pub settled : due s (state_after s (start s) (made_turns s ms xs)) ≡ None
   pub comes : place ≡ position s (length ms)

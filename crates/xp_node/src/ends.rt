@@ -5,7 +5,7 @@ ghost use Rattle.xp_rules.specs.State.{idle_end, idle_ends, opened_ends};
 ghost use Rattle.xp_rules.specs.Runs.{some_owe, any_owes};
 ghost use Rattle.xp_rules.specs.Flags.{is_bad_flags, ends_requested};
 
-use crate::end::LinkEnd;
+use xp_channel::end::LinkEnd;
 use xp_rules::setup::Setup;
 
 fn four_idle() -> [LinkEnd; 4]

@@ -6,10 +6,9 @@ ghost use Rattle.xp_rules.specs.Sending.{payload_of};
 ghost use Rattle.xp_rules.specs.Pulling.{pull_word};
 ghost use Rattle.xp_rules.specs.State.{start, end_of, set_end, engage_of};
 ghost use Rattle.xp_rules.specs.Rules.{Can, pull_mark, wanted_of, wants_notice};
-ghost use Rattle.xp_rules.specs.Flags.{message_flag};
 ghost use Rattle.xp_rules.specs.Runs.{is_done};
 ghost use Rattle.xp_rules.specs.Acts.{current, begun_with, after_acts, MayActs, due, due_to, ends_answered, notice_due, end_noticed};
-ghost use Rattle.xp_node.specs.End.{IsShort};
+ghost use Rattle.xp_channel.specs.End.{IsShort};
 ghost use Rattle.xp_node.specs.Held.{HasRoom, begun_acts, answered_acts};
 ghost use Rattle.xp_node.specs.Kept.{take_place};
 ghost use Rattle.xp_duties.specs.Diligent.{CanBegin};
@@ -17,7 +16,6 @@ ghost use Rattle.xp_duties.specs.Diligent.{CanBegin};
 mod planning;
 mod stepping;
 
-use crate::end::LinkEnd;
 use crate::ends::{opened, some_owe};
 use crate::planning::target;
 use std::marker::Model;
@@ -25,6 +23,7 @@ use xp_base::body::Body;
 use xp_base::ids::{Channel, PartId};
 use xp_base::places::{counters, flag_word};
 use xp_base::step::{CopyMark, Op, OpKind, Wanted};
+use xp_channel::end::{LinkEnd, message_flag};
 use xp_rules::commands::Command;
 use xp_rules::copies::Copies;
 use xp_rules::engage::Engagement;
@@ -219,11 +218,9 @@ impl Held {
             self.doing = false;
             return self.decided.take();
         }
-        let answer = self.find_answer(setup);
-        if answer.is_some() {
-            self.doing = false;
-        }
-        answer
+        let answer = self.find_answer(setup)?;
+        self.doing = false;
+        Some(answer)
     }
 
     // What a take or a drain in progress finds.
@@ -232,15 +229,18 @@ impl Held {
         ensures value { result ≡ due_to self.old (current setup.now self.old) }
         ensures state { self.new ≡ (if is_some result then record self.old { ends = ends_answered self.old (current setup.now self.old) None } else self.old) }
     {
-        let command = self.current(setup)?;
-        let (partner, channel) = target(command);
-        let end = &mut self.ends[partner][channel];
-        match command {
-            Command::Take { .. } => {
-                let answer = end.answer()?;
-                Some(LogAnswer::Take(answer))
+        match self.current(setup)? {
+            Command::Take {
+                partner,
+                channel,
+                ..
+            } => {
+                let end = &mut self.ends[partner.get() as usize][channel.get() as usize];
+                Some(LogAnswer::Take(end.answer()?))
             }
-            Command::Drain { .. } => end.drained(),
+            Command::Drain { partner, channel } => self
+                .end(partner.get() as usize, channel.get() as usize)
+                .drained(),
             Command::Send { .. } | Command::Release { .. } => None,
         }
     }
@@ -337,12 +337,4 @@ impl Held {
         let end = &mut self.ends[q as usize][c as usize];
         end.notice()
     }
-}
-
-// The bit of a channel's message request.
-fn message_flag(channel: u8) -> u64
-    requires { channel < 4 }
-    ensures { result ≡ message_flag channel }
-{
-    1u64 << (8 * channel + 5)
 }

@@ -33,27 +33,29 @@ impl Kept {
         })
     }
 
-    /// Makes room for a turn.
-    pub fn reserve(&mut self) -> Result<(), AllocError>
-        ensures ok { OnOk result (0 < kept_room self.new) }
+    /// Makes room for some turns, 8 at most.
+    pub fn reserve(&mut self, turns: usize) -> Result<(), AllocError>
+        requires { turns ≤ 8 }
+        ensures ok { OnOk result (turns ≤ kept_room self.new) }
         ensures same { logged_of self.new ≡ logged_of self.old }
         ensures log { log_room self.old ≤ log_room self.new }
         ensures records { Falls self.old.records.items self.new.records.items 0 0 0 0 }
     {
-        reserve_records(&mut self.records)?;
-        self.log.reserve(1)
+        reserve_records(&mut self.records, turns)?;
+        self.log.reserve(turns)
     }
 }
 
-// Makes room in each record.
-fn reserve_records(records: &mut Vec<Record>) -> Result<(), AllocError>
-    ensures ok { OnOk result (0 < records_room records.new.items) }
+// Makes room for some turns in each record.
+fn reserve_records(records: &mut Vec<Record>, turns: usize) -> Result<(), AllocError>
+    requires { turns ≤ 8 }
+    ensures ok { OnOk result (turns ≤ records_room records.new.items) }
     ensures same { map seen records.new.items ≡ map seen records.old.items }
     ensures more { Falls records.old.items records.new.items 0 0 0 0 }
 {
     for i in 0..records.len() {
         let record = &mut records[i];
-        record.reserve()?;
+        record.reserve(turns)?;
     }
     Ok(())
 }

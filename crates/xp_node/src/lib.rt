@@ -1,7 +1,6 @@
 //! One partition: its machines, and its turns so far.
 #![tactic(auto)]
 
-pub mod end;
 pub mod ends;
 pub mod held;
 pub mod kept;

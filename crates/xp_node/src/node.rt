@@ -24,6 +24,9 @@ use xp_rules::scenario::Scenario;
 use xp_rules::setup::Setup;
 use xp_script::setting::setup_for;
 
+// For how many turns room is made at once.
+const TURNS_AHEAD: u8 = 8;
+
 /// One partition: its part of the scenario and its turns. Contracts see these, the step that waits, and for how many turns there is room.
 #[derive(Drop)]
 pub struct Node {
@@ -36,6 +39,8 @@ pub struct Node {
     done: bool,
     /// Where the next turn stands in the circle in which the links are served.
     place: u16,
+    /// For how many turns there is room for certain.
+    spare: u8,
 }
 
 impl Model for Node {
@@ -81,18 +86,25 @@ impl Node {
             waiting: None,
             done,
             place: 0,
+            spare: 0,
         })
     }
 
-    /// Makes room for a turn.
+    /// Makes room for a turn, and for a few more where there is none left.
     pub fn reserve_turn(&mut self) -> Result<(), AllocError>
         ensures ok { OnOk result (0 < self.new.room) }
         ensures same { self.new ≡ record self.old { room = self.new.room } }
         ensures room { self.old.room ≤ self.new.room }
     {
-        self.made.reserve(1)?;
-        self.steps.reserve(1)?;
-        self.kept.reserve()
+        if self.spare > 0 {
+            return Ok(());
+        }
+        let turns = TURNS_AHEAD as usize;
+        self.made.reserve(turns)?;
+        self.steps.reserve(turns)?;
+        self.kept.reserve(turns)?;
+        self.spare = TURNS_AHEAD;
+        Ok(())
     }
 
     /// Begins a turn. The step that it wants waits for its answer; with none the turn is over.
@@ -109,7 +121,11 @@ impl Node {
         match self.held.plan(&self.setup, self.place) {
             Some(rule) => {
                 let wanted = self.held.wanted(&self.setup, rule);
-                self.waiting = Some(Waiting { rule, began });
+                self.waiting = Some(Waiting {
+                    rule,
+                    op: wanted.op,
+                    began,
+                });
                 Some(wanted)
             }
             None => {
@@ -126,6 +142,7 @@ impl Node {
                 );
                 self.done = self.held.is_done(&self.setup);
                 self.place = place_after(&self.setup, self.place);
+                self.spare = self.spare.saturating_sub(1);
                 None
             }
         }
@@ -143,7 +160,6 @@ impl Node {
             return;
         };
         let rule = waiting.rule;
-        let wanted = self.held.wanted(&self.setup, rule);
         note_begun(&self.setup, &self.held, waiting.began, &mut self.kept);
         note_step(&self.held, rule, &answer, &mut self.kept.records);
         self.held.apply(&self.setup, rule, answer);
@@ -151,7 +167,7 @@ impl Node {
         keep(
             &mut self.steps,
             Step {
-                op: wanted.op,
+                op: waiting.op,
                 answer,
             },
         );
@@ -167,6 +183,7 @@ impl Node {
         self.waiting = None;
         self.done = self.held.is_done(&self.setup);
         self.place = place_after(&self.setup, self.place);
+        self.spare = self.spare.saturating_sub(1);
     }
 
     /// How the partition has ended, where it has.

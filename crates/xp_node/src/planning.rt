@@ -1,11 +1,10 @@
 // What a command asks of its end next.
 ghost use Rattle.std.specs.Prelude.{◌≡◌, ◌<◌, IfSome};
 ghost use Rattle.xp_rules.specs.Acts.{partner_named, channel_named};
-ghost use Rattle.xp_node.specs.End.{IsUnshownFor};
 ghost use Rattle.xp_node.specs.Held.{EndMakes};
 ghost use Rattle.xp_duties.specs.Plan.{end_plan};
 
-use crate::end::LinkEnd;
+use xp_channel::end::LinkEnd;
 use xp_rules::commands::Command;
 use xp_rules::rule::Rule;
 
@@ -40,7 +39,6 @@ pub fn target(command: &Command) -> (usize, usize)
 pub fn plan_for(end: &LinkEnd, command: &Command, partner: u8, channel: u8) -> Option<Rule>
     requires partner { partner ≡ partner_named command.now }
     requires channel { channel ≡ channel_named command.now }
-    requires unshown { IsUnshownFor end.now command.now }
     ensures plan { result ≡ end_plan end.now command.now }
     ensures makes { IfSome result (λ rule. EndMakes end.now partner channel rule) }
 {

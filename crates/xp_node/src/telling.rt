@@ -7,7 +7,7 @@ ghost use Rattle.xp_rules.specs.Acts.{current, due, notice_due, after_acts, MayA
 ghost use Rattle.xp_rules.specs.Logged.{logged_acts, records_answered, verb_of};
 ghost use Rattle.xp_rules.specs.Rules.{partner_of};
 ghost use Rattle.xp_node.specs.Held.{HasRoom, IsNoticed, IsNoticedBut, IsNoticedAt, IsWarmAt, answered_acts, told_acts, channel_of, IsSending};
-ghost use Rattle.xp_node.specs.Kept.{logged_of, log_room, least, Falls, Gives, begun_entries, taken_at};
+ghost use Rattle.xp_node.specs.Kept.{logged_of, log_room, least, Falls, Gives, begun_entries, take_place, taken_at};
 
 use crate::held::Held;
 use crate::kept::{Kept, accept_into, acknowledge_into, answer_last, deliver_into, take_into};
@@ -156,10 +156,9 @@ pub fn answer_next(setup: &Setup, held: &mut Held, kept: &mut Kept) -> bool
     ensures log_room { log_room kept.new ≡ log_room kept.old }
     ensures room { Falls kept.old.records.items kept.new.records.items 0 1 0 0 }
 {
-    let place = held.take_place(setup);
     match held.answer(setup) {
         Some(answer) => {
-            note_taken(&mut kept.records, place, &answer);
+            note_taken(setup, held, &answer, &mut kept.records);
             answer_last(&mut kept.log, answer);
             true
         }
@@ -168,16 +167,15 @@ pub fn answer_next(setup: &Setup, held: &mut Held, kept: &mut Kept) -> bool
 }
 
 // A message that was taken stands in the record of its end.
-fn note_taken(records: &mut Vec<Record>, place: Option<usize>, answer: &LogAnswer)
+fn note_taken(setup: &Setup, held: &Held, answer: &LogAnswer, records: &mut Vec<Record>)
     requires { 0 < least taken_room records.old.items }
-    ensures seen { map seen records.new.items ≡ taken_at place (Some answer.now) (map seen records.old.items) }
+    ensures seen { map seen records.new.items ≡ taken_at (take_place held.now (current setup.now held.now)) (Some answer.now) (map seen records.old.items) }
     ensures room { Falls records.old.items records.new.items 0 1 0 0 }
 {
-    let Some(place) = place else {
+    let LogAnswer::Take(TakeAnswer::Taken { body, .. }) = answer else {
         return;
     };
-    match answer {
-        LogAnswer::Take(TakeAnswer::Taken { body, .. }) => take_into(records, place, body.copy()),
-        LogAnswer::Take(_) | LogAnswer::Send(_) | LogAnswer::Release(_) | LogAnswer::Drain(_) => {}
+    if let Some(place) = held.take_place(setup) {
+        take_into(records, place, body.copy());
     }
 }

@@ -1,4 +1,5 @@
 // What is kept of a turn, and how a partition ends.
+use xp_base::step::Op;
 use xp_rules::rule::Rule;
 
 /// What is kept of a turn: whether it began a command, the rule of its step where it made one, how many notices it gave at the end of
@@ -18,10 +19,11 @@ pub struct Told {
     pub answered: bool,
 }
 
-/// A turn that waits for the answer of its step.
+/// A turn that waits for the answer of its step: the step's rule, what it does, and whether the turn began a command.
 #[derive(Clone, Copy, Debug, PartialEq, Eq)]
 pub struct Waiting {
     pub rule: Rule,
+    pub op: Op,
     pub began: bool,
 }
 

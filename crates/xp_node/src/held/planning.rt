@@ -3,7 +3,7 @@ ghost use Rattle.std.specs.Prelude.{◌≡◌, ◌<◌, ◌≤◌, IfSome, is_so
 ghost use Rattle.xp_rules.specs.Setup.{IsLawfulSetup};
 ghost use Rattle.xp_rules.specs.Rules.{Can};
 ghost use Rattle.xp_duties.specs.Plan.{script_plan, service, service_at, first_rule};
-ghost use Rattle.xp_node.specs.Held.{IsUnanswered, AreConnected};
+ghost use Rattle.xp_node.specs.Held.{AreConnected};
 
 use crate::held::Held;
 use crate::planning::{plan_for, target};
@@ -15,7 +15,6 @@ impl Held {
     pub fn plan(&self, setup: &Setup, place: u16) -> Option<Rule>
         requires lawful { IsLawfulSetup setup.now }
         requires connected { AreConnected setup.now self.now }
-        requires unanswered { IsUnanswered setup.now self.now }
         ensures value { result ≡ first_rule (service_at setup.now place self.now) (script_plan setup.now self.now) }
         ensures can { IfSome result (λ rule. Can setup.now self.now rule) }
     {
@@ -73,7 +72,6 @@ impl Held {
     // The step that the command in progress makes next.
     fn plan_script(&self, setup: &Setup) -> Option<Rule>
         requires lawful { IsLawfulSetup setup.now }
-        requires unanswered { IsUnanswered setup.now self.now }
         ensures value { result ≡ script_plan setup.now self.now }
         ensures can { IfSome result (λ rule. Can setup.now self.now rule) }
     {

@@ -20,7 +20,7 @@ loop-i-preserved c =
       same = read_same rs i x y h e c.reserve.ensures.seen ∙ c.loop-i.invariant.same;
       count = length-set rs i x ∙ c.loop-i.invariant.count;
       more = falls_on _ rs _ 0 0 0 0 c.loop-i.invariant.more (read_falls rs i x y 0 0 0 0 h e f);
-      roomy = room_more rs i x h c.loop-i.invariant.roomy (record { accepted = omega (arith, c.in_ok-reserve.ensures.accepted); taken = omega (arith, c.in_ok-reserve.ensures.taken); asked = omega (arith, c.in_ok-reserve.ensures.asked); delivered = c.in_ok-reserve.ensures.delivered });
+      roomy = room_more c.args.turns rs i x h c.loop-i.invariant.roomy (record { accepted = omega (arith, c.in_ok-reserve.ensures.accepted); taken = omega (arith, c.in_ok-reserve.ensures.taken); asked = omega (arith, c.in_ok-reserve.ensures.asked); delivered = omega (arith, c.in_ok-reserve.ensures.delivered) });
     }
 
 pub returns-in_err-reserve-clause-same : goal.returns-in_err-reserve-clause-same
@@ -35,4 +35,4 @@ returns-in_err-reserve-clause-more c =
     falls_on _ c.loop-i.records.items _ 0 0 0 0 c.loop-i.invariant.more (read_falls c.loop-i.records.items c.loop-i.i c.reserve.new.self c.index_mut-record.result.now 0 0 0 0 h c.index_mut-record.ensures.value f)
 
 pub returns-clause-ok : goal.returns-clause-ok
-returns-clause-ok c = room_all c.loop-i.records.items (λ i d l. c.loop-i.invariant.roomy i d (omega (arith, l, c.loop-i-test.false, c.loop-i.invariant.count, c.len-i-end.ensures, c.args.records.now.ok.0)))
+returns-clause-ok c = room_all c.args.turns c.loop-i.records.items c.requires (λ i d l. c.loop-i.invariant.roomy i d (omega (arith, l, c.loop-i-test.false, c.loop-i.invariant.count, c.len-i-end.ensures, c.args.records.now.ok.0)))

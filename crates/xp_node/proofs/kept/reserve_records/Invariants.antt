@@ -10,5 +10,5 @@ invariant-loop-i l = record {
   same : map seen l.records.items ≡ map seen l.initial.records.items;
   count : length l.records.items ≡ length l.initial.records.items;
   more : Falls l.initial.records.items l.records.items 0 0 0 0;
-  roomy : (k : ℕ) (d : Record) → k < l.i → HasTurnRoom (get_or l.records.items k d);
+  roomy : (k : ℕ) (d : Record) → k < l.i → HasTurnRoom l.turns (get_or l.records.items k d);
 }

@@ -1,11 +1,12 @@
 use Rattle.std.proofs.Common.{sym}
 use Rattle.std.proofs.lemmas.Option.{slice_get_within}
-use Rattle.xp_node.proofs.Lawful.{command_at, short}
+use Rattle.xp_rules.proofs.Lawful.{lawful_command}
+use Rattle.xp_node.proofs.Lawful.{short}
 use Rattle.xp_node.proofs.held.Held.begin_next.Goals as goal
 
 pub begin-requires-clause-short : goal.begin-requires-clause-short
 begin-requires-clause-short c =
-    short c.args.setup.now _ (command_at c.args.setup.now c.args.setup.now.script c.self.inside.begun c.in-Some.command.now c.requires.lawful.commands (sym (c.in-Some.ensures)))
+    short c.args.setup.now _ (lawful_command c.args.setup.now c.args.setup.now.script c.self.inside.begun c.in-Some.command.now c.requires.lawful.commands (sym (c.in-Some.ensures)))
 
 pub returns-in-Some-clause-may : goal.returns-in-Some-clause-may
 returns-in-Some-clause-may c =

@@ -17,10 +17,10 @@ returns-clause-count c =
 pub returns-clause-diligent : goal.returns-clause-diligent
 returns-clause-diligent c =
     let D : NodeView → Type 0 = λ v. AreDiligent v.setup 0 (start v.setup) v.turns in
-    subst D c.self.view_is c.self.invariant.diligent
+    subst D c.self.view_is c.self.invariant.0.diligent
 
 pub returns-clause-windows : goal.returns-clause-windows
 returns-clause-windows c =
     let i = c.self.inside in
     let W : NodeView → Type 0 = λ v. Windows v.setup v.turns in
-    subst W c.self.view_is (tied_windows i.setup i.held i.kept i.made.items i.steps.items i.waiting i.done i.place c.self.invariant)
+    subst W c.self.view_is (tied_windows i.setup i.held i.kept i.made.items i.steps.items i.waiting i.done i.place c.self.invariant.0)
