@@ -82,9 +82,9 @@ entries_text (e ∷ more) = entry_text e ⧺ entries_text more
 unfoldable pub connection_text : Recorded → List ℕ
 connection_text r = decimal r.partner ⧺ codes " " ⧺ decimal r.channel ⧺ codes " epoch " ⧺ decimal r.epoch ⧺ codes " own " ⧺ decimal r.own.stamp ⧺ codes "." ⧺ decimal r.own.count ⧺ codes " partner " ⧺ decimal r.theirs.stamp ⧺ codes "." ⧺ decimal r.theirs.count
 
--- what came of it: the messages accepted and taken, the last get, and the messages whose delivery was told; none ends untold yet
+-- what came of it: the messages accepted and taken, the last get, the messages whose delivery was told, and those of which it was told that the connection ended first
 unfoldable pub counts_text : Recorded → List ℕ
-counts_text r = codes " accepted " ⧺ decimal (length r.accepted) ⧺ codes " taken " ⧺ decimal (length r.taken) ⧺ codes " acked " ⧺ decimal r.acked ⧺ codes " delivered " ⧺ decimal (length r.delivered) ⧺ codes " ended 0" ⧺ line_end
+counts_text r = codes " accepted " ⧺ decimal (length r.accepted) ⧺ codes " taken " ⧺ decimal (length r.taken) ⧺ codes " acked " ⧺ decimal r.acked ⧺ codes " delivered " ⧺ decimal (length r.delivered) ⧺ codes " ended " ⧺ decimal (length r.ended) ⧺ line_end
 
 -- a connection that was connected
 unfoldable pub link_text : Recorded → List ℕ

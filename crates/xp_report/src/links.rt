@@ -32,9 +32,10 @@ fn write_counts(out: &mut String, connection: &Record) -> Result<(), AllocError>
     let taken = connection.taken.len();
     let acked = connection.acked;
     let delivered = connection.delivered.len();
+    let ended = connection.ended.len();
     writeln!(
         out,
-        " accepted {accepted} taken {taken} acked {acked} delivered {delivered} ended 0"
+        " accepted {accepted} taken {taken} acked {acked} delivered {delivered} ended {ended}"
     )
 }
 

@@ -175,11 +175,11 @@ fn record(
     };
     let mut record = Record::opened(alloc, &link);
     for _ in 0..accepted {
-        record.reserve()?;
+        record.reserve(1)?;
         record.accept(Body::empty());
     }
     for _ in 0..taken {
-        record.reserve()?;
+        record.reserve(1)?;
         record.take(Body::empty());
     }
     record.acknowledge(acked);
@@ -189,7 +189,7 @@ fn record(
 /// Asks for the delivery of these numbers, and tells that of the first ones.
 fn tell(record: &mut Record, asked: &[u64], told: usize) -> Result<(), AllocError> {
     for (place, number) in asked.iter().enumerate() {
-        record.reserve()?;
+        record.reserve(1)?;
         record.ask(*number);
         if place < told {
             record.deliver(*number);
@@ -205,6 +205,8 @@ fn records(rt: HostRuntime) -> Result<(), Fail> {
     ended.own = Session { stamp: 5, count: 6 };
     ended.theirs = Session { stamp: 7, count: 8 };
     tell(&mut ended, &[0, 2], 1)?;
+    ended.reserve_ended()?;
+    ended.end(2);
     ended.over = Some(Reason::PartnerClosed { code: 1 });
     let mut never = record(rt.alloc(), 3, 0, 0, 0)?;
     never.connected = false;
@@ -218,7 +220,7 @@ fn records(rt: HostRuntime) -> Result<(), Fail> {
     assert_eq!(rt;
         text.as_str(),
         "  link 0 0 epoch 0 own 1.1 partner 1.1 accepted 0 taken 5 acked 4 delivered 0 ended 0
-  link 2 0 epoch 4 own 5.6 partner 7.8 accepted 3 taken 2 acked 1 delivered 1 ended 0
+  link 2 0 epoch 4 own 5.6 partner 7.8 accepted 3 taken 2 acked 1 delivered 1 ended 1
   over 2 0 epoch 4 own 5.6 partner 7.8 partner-closed 1
   over 3 0 epoch 0 own 1.1 partner 1.1 unequal-sizes 16 32
 "
