@@ -141,9 +141,7 @@ fn steps(words: &mut Words, end: &mut ChannelEnd, work: Work, most: u32) -> Resu
 fn fail(end: &mut ChannelEnd, work: Work) -> Result<Told, Fail> {
     end.reserve()?;
     match end.next(work) {
-        Some(wanted) if wanted.mark.is_some() => {
-            Ok(told_error(end.feed(work, Answer::Failed)))
-        }
+        Some(wanted) if wanted.mark.is_some() => { Ok(told_error(end.feed(work, Answer::Failed))) }
         _ => Ok(("no load", 0)),
     }
 }
@@ -221,7 +219,10 @@ fn run(alloc: Global, acts: &[(bool, Act, Told)]) -> Result<Option<usize>, Fail>
     Ok(None)
 }
 
-const SEND: Act = Act::Send { bytes: 3, wait: true };
+const SEND: Act = Act::Send {
+    bytes: 3,
+    wait: true,
+};
 
 #[test]
 fn carries_messages(rt: HostRuntime) -> Result<(), Fail> {
@@ -234,7 +235,14 @@ fn carries_messages(rt: HostRuntime) -> Result<(), Fail> {
         (true, SEND, NOTHING),
         (true, Act::Work(Work::Send, 100), ("steps", 17)),
         (true, Act::Answer, ("sent", 1)),
-        (true, Act::Send { bytes: 0, wait: false }, NOTHING),
+        (
+            true,
+            Act::Send {
+                bytes: 0,
+                wait: false,
+            },
+            NOTHING,
+        ),
         (true, Act::Work(Work::Send, 100), ("steps", 1)),
         (true, Act::Answer, ("no slot", 0)),
         (false, Act::Flags(0x20), NOTHING),
@@ -264,7 +272,14 @@ fn refuses_without_waiting(rt: HostRuntime) -> Result<(), Fail> {
         (false, Act::Work(Work::Pull, 2), ("steps", 2)),
         (false, Act::Answer, ("empty", 0)),
         (false, Act::Release(0), ("not held", 0)),
-        (false, Act::Send { bytes: 5, wait: true }, ("too big", 4)),
+        (
+            false,
+            Act::Send {
+                bytes: 5,
+                wait: true,
+            },
+            ("too big", 4),
+        ),
         (false, Act::Take { wait: true }, NOTHING),
         (false, Act::Fail(Work::Signal), ("no load", 0)),
         (false, Act::Fail(Work::Pull), ("error", 4)),
@@ -294,7 +309,14 @@ fn goes_down(rt: HostRuntime) -> Result<(), Fail> {
         (true, SEND, ("send disconnecting", 8)),
         (true, Act::Release(0), ("release not connected", 0)),
         (true, Act::Finish, NOTHING),
-        (true, Act::Send { bytes: 5, wait: true }, ("too big", 4)),
+        (
+            true,
+            Act::Send {
+                bytes: 5,
+                wait: true,
+            },
+            ("too big", 4),
+        ),
         (true, SEND, ("send not connected", 0)),
         (true, Act::Take { wait: true }, ("take not connected", 0)),
         (true, Act::Drain, ("drain not connected", 0)),
