@@ -8,12 +8,17 @@ use Rattle.xp_base.specs.declared.step.Step.{Step}
 use Rattle.xp_base.specs.declared.step.CopyMark.{CopyMark}
 use Rattle.xp_base.specs.Memory.{Memory, word_at, put_at, answer_of, memory_after}
 
+-- what a notice says of a message: that the partner has acknowledged it, or that its connection ended before
+pub data NoticeKind : Type 0 where
+  Delivered : NoticeKind
+  Ended : NoticeKind
+
 -- what a partition does beside its step: the next command of its script is begun, the one in progress is answered,
--- or the end for a partner and a channel gives the notice that is due
+-- or the end for a partner and a channel gives the notice that is due: of which message, and what it says
 pub data Act : Type 0 where
   Begun : Act
   Answered : Act
-  Noticed : (partner : ℕ) → (channel : ℕ) → Act
+  Noticed : (partner : ℕ) → (channel : ℕ) → (number : ℕ) → (kind : NoticeKind) → Act
 
 -- a step, and the copy that it belongs to
 pub record Marked : Type 0 where
