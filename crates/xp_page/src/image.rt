@@ -9,9 +9,12 @@ use crate::grammar::PageFault;
 use std::alloc::AllocError;
 use xp_base::ids::{Channel, PartId};
 
+/// How many bytes a word has.
+pub const WORD_BYTES: usize = 8;
+
 /// Where an image stands: its first byte's offset, whose partition it is of and how many partitions there are, and the
 /// partner and the channel that it is for, where it is for one.
-#[derive(Clone, Copy, Debug)]
+#[derive(Clone, Copy)]
 pub struct At {
     pub offset: u64,
     pub owner: PartId,
@@ -33,7 +36,7 @@ pub trait Image: Sized {
 
     /// How many bytes the image has.
     fn length() -> usize
-        ensures { result ≡ 8 * size };
+        ensures { result ≡ WORD_BYTES * size };
 
     /// Appends the image.
     fn write(&self, out: &mut Vec<u8>) -> Result<(), AllocError>
@@ -44,7 +47,7 @@ pub trait Image: Sized {
 
     /// Reads the image from the first bytes; what stands behind it isn't looked at.
     fn read(bytes: &[u8], at: At) -> Result<Self, PageFault>
-        requires { at.offset + 8 * size < 2 ^ 64 }
+        requires { at.offset + WORD_BYTES * size < 2 ^ 64 }
         ensures { IsReadOf words (table at) at.offset bytes.now result };
 
     ghost sized: { (at : Spot) → length (table at) ≡ size };

@@ -7,8 +7,6 @@ pub mod grammar;
 pub mod image;
 pub mod page;
 mod reading;
-#[cfg(test)]
-mod tests;
 
 pub use area::{ArgsImage, CountersImage, RecordImage};
 pub use entry::EntryImage;

@@ -1,18 +1,24 @@
 // The reserved page and the variables: the open words of a partition.
 ghost use Rattle.std.specs.Prelude.{◌≡◌, [], ◌∷◌, refl};
+ghost use Rattle.xp_page.specs.declared.page.TheConstants.{PAGE_WORDS, VARIABLES_WORDS};
 ghost use Rattle.xp_page.specs.Grammar.{page_table, vars_table, others};
 
 use crate::grammar::{Allowed, PageCause, PageFault, Row};
-use crate::image::{At, Image};
+use crate::image::{At, Image, WORD_BYTES};
 use crate::reading::{append, first_fault, word_at};
 use std::alloc::AllocError;
-use xp_base::layout::SIGNATURE;
+use xp_base::layout::{OPEN_WORDS, RECORDS_AT, SIGNATURE, VARIABLES_AT, VERSION_BASE, VERSION_END};
+
+/// How many words the reserved page has.
+pub const PAGE_WORDS: u32 = VARIABLES_AT;
+/// How many words the variables have.
+pub const VARIABLES_WORDS: u32 = OPEN_WORDS - VARIABLES_AT;
 
 /// The reserved page, in the driver `struct xpc_rsvd_page`.
-#[derive(Clone, Copy, Debug, PartialEq, Eq)]
+#[derive(Clone, Copy)]
 pub struct PageImage {
     pub signature: u64,
-    /// 3 and the minor version, by 16: 48 to 63.
+    /// The major version in the bits from 4 on and the minor version below them: 3.0 to 3.15 are read.
     pub version: u64,
     /// The partition's own number.
     pub owner: u64,
@@ -26,15 +32,19 @@ pub struct PageImage {
     pub padding_seven: u64,
 }
 
-fn page_rows(at: &At) -> [Row; 8]
+/// What each word of the reserved page may be.
+pub fn page_rows(at: &At) -> [Row; PAGE_WORDS as usize]
     ensures { result ≡ page_table at.now }
 {
     [
         Row::new(Allowed::Only(SIGNATURE), PageCause::Signature),
-        Row::new(Allowed::Between(48, 63), PageCause::Version),
+        Row::new(
+            Allowed::Between(VERSION_BASE, VERSION_END - 1),
+            PageCause::Version,
+        ),
         Row::new(Allowed::Only(at.owner.get() as u64), PageCause::Value),
-        Row::new(Allowed::Only(8), PageCause::Address),
-        Row::new(Allowed::Between(0, 4_294_967_295), PageCause::Value),
+        Row::new(Allowed::Only(VARIABLES_AT as u64), PageCause::Address),
+        Row::new(Allowed::Between(0, u32::MAX as u64), PageCause::Value),
         Row::new(Allowed::AllOf(at.count), PageCause::Mask),
         Row::new(Allowed::Only(0), PageCause::Value),
         Row::new(Allowed::Only(0), PageCause::Value),
@@ -42,7 +52,7 @@ fn page_rows(at: &At) -> [Row; 8]
 }
 
 impl PageImage {
-    fn to_words(&self) -> [u64; 8]
+    fn to_words(&self) -> [u64; PAGE_WORDS as usize]
         ensures { result ≡ self.now.signature ∷ self.now.version ∷ self.now.owner ∷ self.now.variables ∷ self.now.stamp ∷ self.now.partitions ∷ self.now.padding_six ∷ self.now.padding_seven ∷ [] }
     {
         [
@@ -59,14 +69,14 @@ impl PageImage {
 }
 
 impl Image for PageImage {
-    ghost size = { 8 };
+    ghost size = { PAGE_WORDS };
 
     ghost words = { λ x. x.signature ∷ x.version ∷ x.owner ∷ x.variables ∷ x.stamp ∷ x.partitions ∷ x.padding_six ∷ x.padding_seven ∷ [] };
 
     ghost table = { page_table };
 
     fn length() -> usize {
-        64
+        WORD_BYTES * PAGE_WORDS as usize
     }
 
     fn write(&self, out: &mut Vec<u8>) -> Result<(), AllocError> {
@@ -93,7 +103,7 @@ impl Image for PageImage {
 }
 
 /// The variables, in the driver `struct xpc_vars_sn2`.
-#[derive(Clone, Copy, Debug, PartialEq, Eq)]
+#[derive(Clone, Copy)]
 pub struct VarsImage {
     /// The heartbeat count.
     pub beat: u64,
@@ -123,7 +133,8 @@ fn other_bits(at: &At) -> Row
     Row::new(others, PageCause::Mask)
 }
 
-fn vars_rows(at: &At) -> [Row; 8]
+/// What each word of the variables may be.
+pub fn vars_rows(at: &At) -> [Row; VARIABLES_WORDS as usize]
     ensures { result ≡ vars_table at.now }
 {
     [
@@ -133,13 +144,13 @@ fn vars_rows(at: &At) -> [Row; 8]
         other_bits(at),
         other_bits(at),
         other_bits(at),
-        Row::new(Allowed::Only(16), PageCause::Address),
+        Row::new(Allowed::Only(RECORDS_AT as u64), PageCause::Address),
         Row::new(Allowed::Only(0), PageCause::Value),
     ]
 }
 
 impl VarsImage {
-    fn to_words(&self) -> [u64; 8]
+    fn to_words(&self) -> [u64; VARIABLES_WORDS as usize]
         ensures { result ≡ self.now.beat ∷ self.now.mask ∷ self.now.offline ∷ self.now.activation ∷ self.now.engaged ∷ self.now.deactivation ∷ self.now.records ∷ self.now.padding ∷ [] }
     {
         [
@@ -156,14 +167,14 @@ impl VarsImage {
 }
 
 impl Image for VarsImage {
-    ghost size = { 8 };
+    ghost size = { VARIABLES_WORDS };
 
     ghost words = { λ x. x.beat ∷ x.mask ∷ x.offline ∷ x.activation ∷ x.engaged ∷ x.deactivation ∷ x.records ∷ x.padding ∷ [] };
 
     ghost table = { vars_table };
 
     fn length() -> usize {
-        64
+        WORD_BYTES * VARIABLES_WORDS as usize
     }
 
     fn write(&self, out: &mut Vec<u8>) -> Result<(), AllocError> {

@@ -3,8 +3,13 @@ ghost use Rattle.std.specs.Prelude.{◌≡◌, ℕ, ◌+◌, ◌*◌, ◌<◌, �
 ghost use Rattle.xp_page.specs.Reading.{word_in, AllowedTo, IsFirstFault, bytes_of_words};
 
 use crate::grammar::{PageCause, PageFault, Row};
+use crate::image::WORD_BYTES;
 use byteorder::{ByteOrder, LittleEndian};
 use std::alloc::AllocError;
+use xp_base::layout::LINE_WORDS;
+
+/// The bytes of the longest image.
+const LONGEST_IMAGE: usize = WORD_BYTES * LINE_WORDS as usize;
 
 /// Word `k` of some bytes that have it whole.
 pub fn word_at(bytes: &[u8], k: usize) -> u64
@@ -37,15 +42,15 @@ pub fn first_fault(rows: &[Row], bytes: &[u8], offset: u64) -> Option<PageFault>
     None
 }
 
-/// Appends the bytes of at most 16 words.
+/// Appends the bytes of the words of an image, which are no more than those of a line.
 #[tactic(auto, unfolding(crate::specs::Reading::bytes_of_words))]
 pub fn append(words: &[u64], out: &mut Vec<u8>) -> Result<(), AllocError>
-    requires { length words.now ≤ 16 }
+    requires { length words.now ≤ LINE_WORDS }
     ensures ok { OnOk result (out.new.items ≡ out.old.items ++ bytes_of_words words.now) }
     ensures err { OnErr result (out.new.items ≡ out.old.items) }
     ensures range { (i : ℕ) → slice_index words.now i < 2 ^ 64 }
 {
-    let mut bytes = [0u8; 128];
+    let mut bytes = [0u8; LONGEST_IMAGE];
     let image = &mut bytes[..8 * words.len()];
     LittleEndian::write_u64_into(words, image);
     out.extend_from_slice(image)

@@ -7,6 +7,6 @@ invariant-loop-turn g l = record {
   consumed : Consumes (g.S.Source.left l.initial.source) (g.S.Source.left l.source) l.bytes.items;
   count : l._turn ≤ length l.bytes.items;
   within : length l.bytes.items ≤ l.limit;
-  piece : length l.piece ≡ 4096;
+  piece : length l.piece ≡ 8192;
   faults : g.S.Source.faults l.source ≡ g.S.Source.faults l.initial.source;
 }
