@@ -1,3 +1,2 @@
-pub mod LawfulLemmas
+pub mod Links
 pub mod Openings
-pub mod Settings

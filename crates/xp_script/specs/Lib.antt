@@ -1,2 +1,10 @@
+pub mod Built
+pub mod Commands
 pub mod Lawful
+pub mod Opening
+pub mod Parts
+pub mod Settings
 pub mod Simple
+pub mod Sizes
+pub mod Totals
+pub mod Turns

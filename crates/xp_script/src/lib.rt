@@ -1,15 +1,18 @@
-//! A scenario as plain data: its parts under one name each, constructors for one that is made in code, the test whether it is lawful, what
-//! each partition is told of it, and the words that they open with.
+//! A scenario as plain data: its settings, scripts and schedule, which scenarios are lawful, what
+//! each partition is told of one, the words that the partitions open with, and the log of a
+//! partition's commands.
 #![tactic(auto)]
 
-pub mod commands;
-pub mod lawful;
+pub mod command;
+pub mod count;
+pub mod limits;
+pub mod log;
 pub mod made;
 pub mod opening;
+pub mod part;
+pub mod payload;
+pub mod scenario;
+pub mod schedule;
+pub mod script;
 pub mod setting;
-#[cfg(test)]
-mod tests;
-
-pub use xp_rules::commands::{Command, Payload, Script};
-pub use xp_rules::scenario::{Fault, Faults, Scenario, Schedule, Scripts, Warm, Warms};
-pub use xp_rules::setup::{Link, Links, Marks, Setup};
+pub mod totals;

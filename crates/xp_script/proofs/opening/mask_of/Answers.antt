@@ -1,5 +1,5 @@
 use Rattle.std.proofs.Common.{◌+◌, ◌*◌, ◌%◌, ◌^◌, ℕ, drop, bit_or, ap, sym, ◌∙◌}
-use Rattle.xp_rules.specs.Scenario.{partner_mask}
+use Rattle.xp_script.specs.Opening.{partner_mask}
 use Rattle.xp_script.proofs.Openings.{mask_more, mask_end}
 use Rattle.xp_script.proofs.opening.mask_of.Goals as goal
 

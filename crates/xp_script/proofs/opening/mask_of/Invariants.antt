@@ -1,5 +1,5 @@
 use Rattle.std.proofs.Common.{◌≡◌, drop, bit_or}
-use Rattle.xp_rules.specs.Scenario.{partner_mask}
+use Rattle.xp_script.specs.Opening.{partner_mask}
 use Rattle.xp_script.proofs.opening.mask_of.Given as goal
 
 abbrev pub invariant-loop-link : goal.invariant-loop-link

@@ -1,5 +1,5 @@
 use Rattle.std.proofs.Common.{◌≡◌, length, drop}
-use Rattle.xp_rules.specs.Scenario.{all_link_words, put_words}
+use Rattle.xp_script.specs.Opening.{all_link_words, put_words}
 use Rattle.xp_script.proofs.opening.put_links.Given as goal
 
 abbrev pub invariant-loop-link : goal.invariant-loop-link

@@ -1,0 +1,10 @@
+use Rattle.std.proofs.Common.{ℕ, subst, refl}
+use Rattle.xp_script.specs.Lawful.{HasLawfulBoots}
+use Rattle.xp_lawful.proofs.Below.{below_more}
+use Rattle.xp_lawful.proofs.lawful.are_lawful_parts.Goals as goal
+
+pub loop-part-preserved : goal.loop-part-preserved
+loop-part-preserved c =
+    let s = c.args.scenario.now in
+    below_more (λ p. HasLawfulBoots s p) c.loop-part.part c.loop-part.invariant
+    (subst (λ (p : ℕ). HasLawfulBoots s p) c.known.ensures (c.if-not-has_lawful_boots.ensures.0 refl))

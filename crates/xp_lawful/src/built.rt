@@ -1,0 +1,98 @@
+// Which lawful scenarios the rules of today can run.
+ghost use Rattle.std.specs.Prelude.{◌≡◌, ℕ, ◌<◌, ◌↔◌, length, IsTrue};
+ghost use Rattle.std.specs.List.{AllByRecursion};
+ghost use Rattle.xp_script.specs.Lawful.{IsLawful};
+ghost use Rattle.xp_script.specs.Built.{HasBuiltBoots, HasBuiltSettings, IsBuilt, IsBuiltCommand, IsBuiltWarm};
+
+use xp_base::ids::PartId;
+use xp_script::command::Command;
+use xp_script::limits::{BUILT_PARTS, BUILT_SCRIPTS, DEVICE_CHANNEL};
+use xp_script::scenario::Scenario;
+use xp_script::script::Script;
+use xp_script::setting::Warm;
+
+/// Whether the rules of today can run a scenario.
+pub fn is_built(scenario: &Scenario) -> bool
+    requires { IsLawful scenario.now }
+    ensures { IsTrue result ↔ IsBuilt scenario.now }
+{
+    scenario.count.get() <= BUILT_PARTS && has_built_settings(scenario) && are_built_parts(scenario)
+}
+
+fn has_built_settings(scenario: &Scenario) -> bool
+    ensures { IsTrue result ↔ HasBuiltSettings scenario.now }
+{
+    scenario.check == 0
+        && scenario.minors.list.is_empty()
+        && are_built_warms(&scenario.warms.list)
+        && scenario.stops.list.is_empty()
+        && scenario.restarts.list.is_empty()
+        && scenario.pokes.list.is_empty()
+}
+
+fn are_built_warms(warms: &[Warm]) -> bool
+    ensures { IsTrue result ↔ AllByRecursion IsBuiltWarm warms.now }
+{
+    for warm in warms {
+        if warm.channel.get() == DEVICE_CHANNEL {
+            return false;
+        }
+    }
+    true
+}
+
+// Whether the scripts of each partition are built.
+fn are_built_parts(scenario: &Scenario) -> bool
+    requires { length scenario.now.scripts ≡ scenario.now.count }
+    ensures { IsTrue result ↔ ((p : ℕ) → p < scenario.now.count → HasBuiltBoots scenario.now p) }
+{
+    let end = scenario.count.get();
+    for part in 0..end {
+        if !has_built_boots(scenario, PartId::known(part)) {
+            return false;
+        }
+    }
+    true
+}
+
+fn has_built_boots(scenario: &Scenario, part: PartId) -> bool
+    requires { part < length scenario.now.scripts }
+    ensures { IsTrue result ↔ HasBuiltBoots scenario.now part }
+{
+    let boots = &scenario.scripts.list[part.get() as usize];
+    boots.list.len() <= BUILT_SCRIPTS && are_built_boots(&boots.list)
+}
+
+fn are_built_boots(boots: &[Script]) -> bool
+    ensures { IsTrue result ↔ AllByRecursion (AllByRecursion IsBuiltCommand) boots.now }
+{
+    for script in boots {
+        if !are_built_commands(&script.commands) {
+            return false;
+        }
+    }
+    true
+}
+
+fn are_built_commands(commands: &[Command]) -> bool
+    ensures { IsTrue result ↔ AllByRecursion IsBuiltCommand commands.now }
+{
+    for command in commands {
+        if !is_built_command(command) {
+            return false;
+        }
+    }
+    true
+}
+
+fn is_built_command(command: &Command) -> bool
+    ensures { IsTrue result ↔ IsBuiltCommand command.now }
+{
+    match command {
+        Command::Send { .. } => true,
+        Command::Take { .. } => true,
+        Command::Release { .. } => true,
+        Command::Drain { channel, .. } => channel.get() != DEVICE_CHANNEL,
+        _ => false,
+    }
+}
