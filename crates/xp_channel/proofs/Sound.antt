@@ -2,6 +2,7 @@
 use Rattle.std.proofs.Common.{◌≡◌, ℕ, ◌+◌, ◌-◌, ◌<◌, ◌≤◌, Bool, true, false, ◌||◌, cond, ltb, nat_eq, List, [], ◌∷◌, ◌++◌, length, set, refl, ap, arith, length-append, Option, Some, None}
 use Rattle.std.proofs.lemmas.Bool.{ltb-false}
 use Rattle.std.proofs.lemmas.List.{length-set}
+use Rattle.xp_base.specs.declared.layout.TheConstants.{LINES, LINE_WORDS}
 use Rattle.xp_base.specs.declared.reason.Reason.{Reason}
 use Rattle.xp_base.specs.declared.answer.TakeAnswer.{TakeAnswer}
 use Rattle.xp_base.specs.declared.answer.TakeAnswer.TheVariants.{Taken}
@@ -58,7 +59,7 @@ undue_length get high (n ∷ ns) l h e =
     omega (arith, g, between_length (n + 1) high ns h.1)
 
 -- one more number can be asked for where none is due
-pub room_to_ask : (x : Sending) (p : Pulling) (r : Releasing) (ns : List ℕ) → IsSound x p r ns → below x.known ns ≡ None → x.stored ≡ 65535 → length ns < 8
+pub room_to_ask : (x : Sending) (p : Pulling) (r : Releasing) (ns : List ℕ) → IsSound x p r ns → below x.known ns ≡ None → x.stored ≡ 65535 → length ns < LINES
 room_to_ask x p r ns h e s = let u = undue_length x.known x.put ns h.known h.asked e in let v = h.storing (omega (arith, s)) in omega (arith, u, v, h.queue)
 
 -- the same sides, but for parts that are of no matter here
@@ -105,7 +106,7 @@ read_sound x p r ns w false true f low high h = h
 read_sound x p r ns w false false true low high h = over_sound (get_known w x) p r ns (get_sound x p r ns w h (low refl) (high refl))
 read_sound x p r ns w false false false low high h = get_sound x p r ns w h (low refl) (high refl)
 
-asked_sound : (x : Sending) (p : Pulling) (r : Releasing) (ns : List ℕ) (t : Bool) → IsSound x p r ns → x.put < x.known + x.entries → length ns < 8 → IsSound (record (send_over x) { put = x.put + 1 }) p r (cond t (ns ++ x.put ∷ []) ns)
+asked_sound : (x : Sending) (p : Pulling) (r : Releasing) (ns : List ℕ) (t : Bool) → IsSound x p r ns → x.put < x.known + x.entries → length ns < LINES → IsSound (record (send_over x) { put = x.put + 1 }) p r (cond t (ns ++ x.put ∷ []) ns)
 asked_sound x p r ns true h room few = record { queue = h.queue; known = omega (arith, h.known); put = omega (arith, room); storing = λ i. absurd (omega (arith, i)); pulled_put = h.pulled_put; held = h.held; asked = between_more 0 x.put ns h.asked; few = omega (arith, few, length-append ns (x.put ∷ [])) }
 asked_sound x p r ns false h room few = record { queue = h.queue; known = omega (arith, h.known); put = omega (arith, room); storing = λ i. absurd (omega (arith, i)); pulled_put = h.pulled_put; held = h.held; asked = between_high 0 x.put (x.put + 1) ns (omega arith) h.asked; few = h.few }
 
@@ -140,7 +141,7 @@ counters_sound x p r ns w (Some g) h = put_sound x p r ns w (shown_empty p w) (l
 
 pub pull_sound : (x : Sending) (p : Pulling) (r : Releasing) (ns : List ℕ) (m : PullRule) (w : ℕ) → IsSound x p r ns → IsSound (pull_heard x p m w) (pull_after (beside x.known x.put r.front) p m w) r ns
 pull_sound x p r ns ReadCounters w h = counters_sound x p r ns w p.counters h
-pull_sound x p r ns ReadEntry w h = entry_sound x p r ns (nat_eq (length (p.copied ++ w ∷ [])) 16) (p.copied ++ w ∷ []) h
+pull_sound x p r ns ReadEntry w h = entry_sound x p r ns (nat_eq (length (p.copied ++ w ∷ [])) LINE_WORDS) (p.copied ++ w ∷ []) h
 
 pub failed_sound : (x : Sending) (p : Pulling) (r : Releasing) (ns : List ℕ) (m : PullRule) → IsSound x p r ns → IsSound x (pull_failed p m) r ns
 failed_sound x p r ns ReadCounters h = record { queue = h.queue; known = h.known; put = h.put; storing = h.storing; pulled_put = h.pulled_put; held = h.held; asked = h.asked; few = h.few }
@@ -156,7 +157,7 @@ answered_sound x p r ns h = answered_by x p r ns p.empty h
 
 pub noticed_sound : (x : Sending) (p : Pulling) (r : Releasing) (ns : List ℕ) → IsSound x p r ns → IsSound x p r (first_told ns)
 noticed_sound x p r ns h = record { queue = h.queue; known = h.known; put = h.put; storing = h.storing; pulled_put = h.pulled_put; held = h.held; asked = between_rest x.put ns h.asked; few = shorter ns h.few } where
-  shorter : (ns : List ℕ) → length ns ≤ 8 → length (first_told ns) ≤ 8
+  shorter : (ns : List ℕ) → length ns ≤ LINES → length (first_told ns) ≤ LINES
   shorter [] l = l
   shorter (n ∷ ns) l = omega (arith, l)
 
@@ -178,7 +179,7 @@ pub message_found : (p : Pulling) (k : ℕ) (body : List ℕ) → take_due p ≡
 message_found p k body e = message_by p.take p k body e
 
 -- a message that is taken is the next one after those that are held, and there is room for it
-pub room_to_hold : (x : Sending) (p : Pulling) (r : Releasing) (ns : List ℕ) → IsSound x p r ns → IsKept p → Found p → length r.later < 8
+pub room_to_hold : (x : Sending) (p : Pulling) (r : Releasing) (ns : List ℕ) → IsSound x p r ns → IsKept p → Found p → length r.later < LINES
 room_to_hold x p r ns h k f = omega (arith, h.held, h.pulled_put, k.cached, k.put, k.size.1, f.cached)
 
 -- what was told of the numbers that are asked for leaves the rest

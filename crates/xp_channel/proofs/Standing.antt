@@ -1,6 +1,7 @@
 -- How an end stands to its registration, its reason and its records after each of its calls.
 use Rattle.std.proofs.Common.{◌≡◌, ℕ, Bool, true, false, cond, ltb, nat_eq, List, [], ◌∷◌, ◌++◌, length, refl, ap, sym, ◌∙◌, subst, arith, Option, Some, None, ◌⊎◌, inl, inr}
 use Rattle.std.specs.Prelude.{IsSome, is_some}
+use Rattle.xp_base.specs.declared.layout.TheConstants.{LINE_WORDS}
 use Rattle.xp_base.specs.declared.reason.Reason.{Reason}
 use Rattle.xp_base.specs.declared.answer.SendAnswer.{SendAnswer}
 use Rattle.xp_rules.specs.declared.rule.RingRule.{RingRule}
@@ -87,7 +88,7 @@ copied_shape None ws p = record { own = refl; partner = refl; channel = refl; st
 copied_shape (Some r) ws p = record { own = refl; partner = refl; channel = refl; stopped = refl; taken = refl; take = refl }
 
 entry_shape : (ws : List ℕ) (p : Pulling) → PullShape p (entry_after ws p)
-entry_shape ws p = by (nat_eq (length ws) 16)
+entry_shape ws p = by (nat_eq (length ws) LINE_WORDS)
   where
     by : (t : Bool) → PullShape p (cond t (entry_copied (entry_fault p ws) ws p) (record p { copied = ws }))
     by true = copied_shape (entry_fault p ws) ws p

@@ -1,5 +1,6 @@
 -- What commands to a channel's end are answered, and what becomes of it.
 use Rattle.std.specs.Prelude.{◌≡◌, ℕ, ◌≤◌, Bool, true, false, not, ◌||◌, if◌then◌else◌, nat_lt, nat_eq, List, length, Option, Some, None, is_some}
+use Rattle.xp_base.specs.declared.body.TheConstants.{SEND_BYTES}
 use Rattle.xp_base.specs.declared.answer.SendAnswer.{SendAnswer}
 use Rattle.xp_base.specs.declared.answer.SendAnswer.TheVariants.{TooBig}
 use Rattle.xp_base.specs.declared.answer.TakeAnswer.{TakeAnswer}
@@ -37,9 +38,9 @@ is_releasing x = x.end.releasing || is_some x.decided.release
 abbrev pub is_draining : ChannelView → Bool
 is_draining x = x.draining || is_some x.decided.drain
 
--- a command may come where none of its kind is in progress; a payload has at most 4,096 bytes
+-- a command may come where none of its kind is in progress; a payload has at most `SEND_BYTES` bytes
 abbrev pub MayCommand : ChannelView → LinkCommand → Type 0
-MayCommand x (Send payload wait notify) = (is_sending x ≡ false) × (length payload.now ≤ 4096)
+MayCommand x (Send payload wait notify) = (is_sending x ≡ false) × (length payload.now ≤ SEND_BYTES)
 MayCommand x (Take wait) = is_taking x ≡ false
 MayCommand x (Release number) = is_releasing x ≡ false
 MayCommand x Drain = is_draining x ≡ false

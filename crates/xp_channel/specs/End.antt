@@ -1,7 +1,9 @@
 -- What the calls of a channel's end ask for and give, besides the rules, and what always holds of an end.
 use Rattle.std.specs.Prelude.{◌≡◌, ℕ, ◌+◌, ◌-◌, ◌<◌, ◌≤◌, ◌^◌, if◌then◌else◌, nat_eq, List, [], ◌∷◌, length, Option, Some, None}
-use Rattle.xp_rules.specs.declared.commands.Command.{Command}
-use Rattle.xp_rules.specs.declared.commands.Command.TheVariants.{Send, Take, Release, Drain}
+use Rattle.xp_base.specs.declared.body.TheConstants.{SEND_BYTES}
+use Rattle.xp_base.specs.declared.layout.TheConstants.{LINES}
+use Rattle.xp_rules.specs.declared.commands.ChannelCommand.{ChannelCommand}
+use Rattle.xp_rules.specs.declared.commands.ChannelCommand.TheVariants.{Send, Take, Release, Drain}
 use Rattle.xp_rules.specs.declared.rule.RingRule.{RingRule}
 use Rattle.xp_rules.specs.declared.rule.RingRule.TheVariants.{ReadGet, WriteEntryWord, AcceptMessage}
 use Rattle.xp_rules.specs.declared.rule.PullRule.{PullRule}
@@ -16,9 +18,9 @@ use Rattle.xp_rules.specs.Releasing.{Releasing, message_released}
 use Rattle.xp_rules.specs.Rules.{wants_notice}
 use Rattle.xp_rules.specs.State.{End, link_of}
 
--- a payload has at most 4,096 bytes
-abbrev pub IsShort : Command → Type 0
-IsShort (Send q c payload wait notify) = length payload ≤ 4096
+-- a payload has at most `SEND_BYTES` bytes
+abbrev pub IsShort : ChannelCommand → Type 0
+IsShort (Send q c payload wait notify) = length payload ≤ SEND_BYTES
 IsShort (Take q c wait) = Unit {0}
 IsShort (Release q c number) = Unit {0}
 IsShort (Drain q c) = Unit {0}
@@ -41,14 +43,14 @@ Between low high (number ∷ more) = (low ≤ number) × Between (number + 1) hi
 -- how the sides of an end hang together: what was put and not acknowledged, and what was put by the partner and not released, fits the
 -- queue; what was taken is released or held; what is asked for was put
 pub record IsSound (x : Sending) (p : Pulling) (r : Releasing) (numbers : List ℕ) : Type 0 where
-  pub queue : x.entries ≤ 8
+  pub queue : x.entries ≤ LINES
   pub known : x.known ≤ x.put
   pub put : x.put ≤ x.known + x.entries
   pub storing : 0 < x.stored → x.put < x.known + x.entries
   pub pulled_put : p.pulled_put ≤ r.front + p.entries
   pub held : p.taken ≡ r.front + length r.later
   pub asked : Between 0 x.put numbers
-  pub few : length numbers ≤ 8
+  pub few : length numbers ≤ LINES
 
 -- the number that is asked for by a step
 abbrev pub asked_by : Sending → RingRule → Option ℕ

@@ -19,7 +19,7 @@ use xp_base::link::LinkState;
 use xp_base::reason::Reason;
 use xp_base::session::Session;
 use xp_rules::records::Record;
-use xp_rules::setup::Link;
+use xp_script::part::Link;
 
 /// For how many calls `ChannelEnd::reserve` makes room: those that a partition makes on one end in one turn are fewer.
 pub const TURN_ROOM: u32 = 8;

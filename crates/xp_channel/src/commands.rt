@@ -8,9 +8,9 @@ use xp_base::reason::Reason;
 use xp_base::session::Session;
 
 /// A command to one end of a channel.
-#[derive(Clone, Copy, Debug)]
+#[derive(Clone, Copy)]
 pub enum LinkCommand<'a> {
-    /// Sends a message of at most 4,096 bytes. Where it may not wait, a full queue refuses it; where it asks for a notice, its delivery is
+    /// Sends a message of at most `SEND_BYTES` bytes. Where it may not wait, a full queue refuses it; where it asks for a notice, its delivery is
     /// told in the record.
     Send {
         payload: &'a [u8],
@@ -30,7 +30,7 @@ pub enum LinkCommand<'a> {
 }
 
 /// What a command was answered.
-#[derive(Debug, Drop)]
+#[derive(Drop)]
 pub enum LinkAnswer {
     Send(SendAnswer),
     Take(TakeAnswer),
@@ -39,7 +39,7 @@ pub enum LinkAnswer {
 }
 
 /// The work of one end, by which its steps are asked for.
-#[derive(Clone, Copy, Debug, PartialEq, Eq)]
+#[derive(Clone, Copy)]
 pub enum Work {
     /// The store of get, and the partner's flags.
     Signal,
@@ -50,14 +50,14 @@ pub enum Work {
 }
 
 /// The entries of a queue and the longest payload, as they were registered.
-#[derive(Clone, Copy, Debug, PartialEq, Eq)]
+#[derive(Clone, Copy)]
 pub struct Registration {
     pub entries: u8,
     pub limit: u16,
 }
 
 /// The sessions under which two partitions are in contact.
-#[derive(Clone, Copy, Debug, PartialEq, Eq)]
+#[derive(Clone, Copy)]
 pub struct Contact {
     pub own: Session,
     pub theirs: Session,

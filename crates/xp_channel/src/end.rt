@@ -1,5 +1,7 @@
 // One end of a channel: its sending side, its receiving side, what it released, and the notices that it owes.
 ghost use Rattle.std.specs.Prelude.{◌≡◌, ◌≢◌, ℕ, ◌<◌, ◌≤◌, ◌+◌, ◌-◌, ◌^◌, true, false, ◌↔◌, ◌||◌, nat_eq, if◌then◌else◌, length, IfSome, IsSome, is_some, Some, None};
+ghost use Rattle.xp_base.specs.declared.body.TheConstants.{SEND_BYTES};
+ghost use Rattle.xp_base.specs.declared.layout.TheConstants.{CHANNELS, LINES};
 ghost use Rattle.xp_base.specs.Places.{index_of};
 ghost use Rattle.xp_rules.specs.Setup.{IsSize};
 ghost use Rattle.xp_rules.specs.Sending.{ring_can, ring_own, ring_place, ring_kind, ring_mark, payload_of};
@@ -30,11 +32,11 @@ use xp_base::reason::Reason;
 use xp_base::step::{CopyKind, CopyMark, Wanted};
 use xp_pull::side::PullSide;
 use xp_ring::side::SendSide;
-use xp_rules::commands::Command;
+use xp_rules::commands::ChannelCommand;
 use xp_rules::copies::Copies;
-use xp_rules::log::LogAnswer;
 use xp_rules::rule::{PullRule, RingRule};
-use xp_rules::setup::Link;
+use xp_script::log::LogAnswer;
+use xp_script::part::Link;
 
 /// What was in progress at an end that is stopped: the answers of its send and its take, and whether a release waited.
 #[derive(Drop)]
@@ -201,7 +203,7 @@ impl LinkEnd {
     /// How many notices are owed.
     pub fn asked(&self) -> u8
         ensures value { result ≡ length self.now.asked }
-        ensures range { result ≤ 8 }
+        ensures range { result ≤ LINES }
     {
         self.asked.len()
     }
@@ -220,14 +222,14 @@ impl LinkEnd {
 
 impl LinkEnd {
     /// Begins a command to this end; the answer, where that is decided at once.
-    pub fn begin(&mut self, command: &Command) -> Option<LogAnswer>
+    pub fn begin(&mut self, command: &ChannelCommand) -> Option<LogAnswer>
         requires room { HasEndRoom self.old }
         requires payload { IsShort command.now }
         ensures answer { result ≡ decided_for self.old command.now }
         ensures end { self.new ≡ end_begun self.old command.now }
     {
         match command {
-            Command::Send {
+            ChannelCommand::Send {
                 payload,
                 wait,
                 notify,
@@ -236,22 +238,22 @@ impl LinkEnd {
                 Some(answer) => Some(LogAnswer::Send(answer)),
                 None => None,
             },
-            Command::Take { wait, .. } => match self.begin_take(*wait) {
+            ChannelCommand::Take { wait, .. } => match self.begin_take(*wait) {
                 Some(answer) => Some(LogAnswer::Take(answer)),
                 None => None,
             },
-            Command::Release { number, .. } => match self.begin_release(*number) {
+            ChannelCommand::Release { number, .. } => match self.begin_release(*number) {
                 Some(answer) => Some(LogAnswer::Release(answer)),
                 None => None,
             },
-            Command::Drain { .. } => self.begin_drain(),
+            ChannelCommand::Drain { .. } => self.begin_drain(),
         }
     }
 
     /// Begins a send; the answer, where it is refused.
     pub fn begin_send(&mut self, payload: &[u8], wait: bool, notify: bool) -> Option<SendAnswer>
         requires room { HasEndRoom self.old }
-        requires payload { length payload.now ≤ 4096 }
+        requires payload { length payload.now ≤ SEND_BYTES }
         ensures answer { result ≡ send_refused self.old payload.now }
         ensures end { self.new ≡ end_sending self.old payload.now wait notify }
     {
@@ -446,7 +448,7 @@ impl LinkEnd {
 
     /// Takes the partner's message request on this channel: a copy of the counters is owed, where the end is connected.
     pub fn request(&mut self, word: u64, channel: u8)
-        requires { channel < 4 }
+        requires { channel < CHANNELS }
         ensures { self.new ≡ end_requested word channel self.old }
     {
         if self.warm && is_requested(word, channel) {
@@ -610,7 +612,7 @@ fn owes_after(rule: RingRule, owes: bool) -> bool
 
 // Whether a flag word has the message request of a channel.
 fn is_requested(word: u64, channel: u8) -> bool
-    requires { channel < 4 }
+    requires { channel < CHANNELS }
     ensures { result ≡ is_requested word channel }
 {
     (word >> (8 * channel + 5)) % 2 == 1
@@ -618,7 +620,7 @@ fn is_requested(word: u64, channel: u8) -> bool
 
 /// The bit of a channel's message request in a flag word.
 pub fn message_flag(channel: u8) -> u64
-    requires { channel < 4 }
+    requires { channel < CHANNELS }
     ensures { result ≡ message_flag channel }
 {
     1u64 << (8 * channel + 5)

@@ -5,8 +5,6 @@ pub mod channel;
 pub mod commands;
 pub mod connections;
 pub mod end;
-#[cfg(test)]
-mod tests;
 
 pub use channel::{ChannelEnd, TURN_ROOM};
 pub use commands::{LinkAnswer, LinkCommand, Work};

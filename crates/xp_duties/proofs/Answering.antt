@@ -7,11 +7,11 @@ use Rattle.xp_base.specs.declared.step.Answer.{Answer}
 use Rattle.xp_base.specs.declared.step.Answer.TheVariants.{Word, Failed}
 use Rattle.xp_base.specs.declared.answer.TakeAnswer.{TakeAnswer}
 use Rattle.xp_base.specs.declared.answer.DrainAnswer.TheVariants.{Ok as DrainOk}
-use Rattle.xp_base.specs.History.{Act, Begun, Answered, Noticed, Turn}
-use Rattle.xp_rules.specs.declared.commands.Command.{Command}
-use Rattle.xp_rules.specs.declared.commands.Command.TheVariants.{Send, Take, Release, Drain}
-use Rattle.xp_rules.specs.declared.log.LogAnswer.{LogAnswer}
-use Rattle.xp_rules.specs.declared.log.LogAnswer.TheVariants.{Drain as DrainAnswered}
+use Rattle.xp_base.specs.History.{Act, Begun, Answered, Noticed, Turn, NoticeKind}
+use Rattle.xp_rules.specs.declared.commands.ChannelCommand.{ChannelCommand}
+use Rattle.xp_rules.specs.declared.commands.ChannelCommand.TheVariants.{Send, Take, Release, Drain}
+use Rattle.xp_script.specs.declared.log.LogAnswer.{LogAnswer}
+use Rattle.xp_script.specs.declared.log.LogAnswer.TheVariants.{Drain as DrainAnswered}
 use Rattle.xp_rules.specs.declared.rule.PullRule.TheVariants.{ReadCounters, ReadEntry}
 use Rattle.xp_rules.specs.declared.rule.Rule.{Rule}
 use Rattle.xp_rules.specs.declared.rule.Rule.TheVariants.{Ring, Pull, Acknowledge, TakeFlags, SetFlag}
@@ -134,7 +134,7 @@ served_due P by st (SetFlag k d) (Word w) q c h i = at_changed P st.ends k d _ q
 served_due P by st (SetFlag k d) Failed q c h i = i
 
 -- what is due of a command is told by its end
-to_same : (x y : State) (o : Option Command) → ((q c : ℕ) → Found (end_of x q c) → Found (end_of y q c)) → ((q c : ℕ) → Drained (end_of x q c) → Drained (end_of y q c)) → IsSome (due_to x o) → IsSome (due_to y o)
+to_same : (x y : State) (o : Option ChannelCommand) → ((q c : ℕ) → Found (end_of x q c) → Found (end_of y q c)) → ((q c : ℕ) → Drained (end_of x q c) → Drained (end_of y q c)) → IsSome (due_to x o) → IsSome (due_to y o)
 to_same x y None f g h = h
 to_same x y (Some (Send q c payload wait notify)) f g h = h
 to_same x y (Some (Take q c wait)) f g h = f q c h
@@ -155,10 +155,10 @@ step_due : (s : Setup) (st : State) (r : Rule) (a : Answer) → IsService r → 
 step_due s st r a h i =
     same_due s st (after_answer st r a) (serves st r a 0 0 h).script (λ q c. served_due Found (λ e new d. d.found) st r a q c h) (λ q c. served_due Drained (λ e new d. d.drained) st r a q c h) i
 
-noticed_due : (s : Setup) (st : State) (k d : ℕ) → IsSome (due s st) → IsSome (due s (after_act s st (Noticed k d)))
-noticed_due s st k d i =
+noticed_due : (s : Setup) (st : State) (k d number : ℕ) (kind : NoticeKind) → IsSome (due s st) → IsSome (due s (after_act s st (Noticed k d number kind)))
+noticed_due s st k d number kind i =
     let new = end_noticed (end_of st k d) in
-    same_due s st (after_act s st (Noticed k d)) refl (λ q c h. subst (λ (x : Pulling). IsSome (take_told (take_due x))) (sym (stays_end (λ e. e.pull) st.ends k d new q c refl)) h) (λ q c h. at_changed Drained st.ends k d new q c (λ g. g) h) i
+    same_due s st (after_act s st (Noticed k d number kind)) refl (λ q c h. subst (λ (x : Pulling). IsSome (take_told (take_due x))) (sym (stays_end (λ e. e.pull) st.ends k d new q c refl)) h) (λ q c h. at_changed Drained st.ends k d new q c (λ g. g) h) i
 
 -- the script plans no step while an answer is due
 due_doing : (b : Bool) (o : Option LogAnswer) → b ≡ false → IsSome (cond b o None) → ⊥
@@ -174,7 +174,7 @@ none_unless true w p e = refl
 none_unless false true p e = e
 none_unless false false p e = refl
 
-none_for : (st : State) (o : Option Command) → IsSome (due_to st o) → plan_for st o ≡ None
+none_for : (st : State) (o : Option ChannelCommand) → IsSome (due_to st o) → plan_for st o ≡ None
 none_for st None h = absurd (cc)
 none_for st (Some (Send q c payload wait notify)) h = absurd (cc)
 none_for st (Some (Take q c wait)) h = none_unless (is_barred st q) (end_of st q c).warm (end_plan (end_of st q c) (Take q c wait)) (take_none (take_due (end_of st q c).pull) (Pull q c (take_step (end_of st q c).pull)) h)
@@ -194,7 +194,7 @@ acts_due : (s : Setup) (st : State) (acts : List Act) → MayActs s st acts → 
 acts_due s st [] m h = inr h
 acts_due s st (Begun ∷ more) m h = absurd (due_doing st.script.doing _ m.0.0 h)
 acts_due s st (Answered ∷ more) m h = inl refl
-acts_due s st (Noticed k d ∷ more) m h = acts_due s (after_act s st (Noticed k d)) more m.1 (noticed_due s st k d h)
+acts_due s st (Noticed k d number kind ∷ more) m h = acts_due s (after_act s st (Noticed k d number kind)) more m.1 (noticed_due s st k d number kind h)
 
 -- and through the step
 made_due : (s : Setup) (n : ℕ) (st : State) (t : Turn) → May s st t → IsDiligent s n st t → IsSome (due s (middle s st t)) → IsSome (due s (after_step s (middle s st t) t.made))

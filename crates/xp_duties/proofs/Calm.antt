@@ -8,7 +8,7 @@ use Rattle.xp_base.specs.declared.step.Answer.{Answer}
 use Rattle.xp_base.specs.declared.step.Answer.TheVariants.{Word, Failed}
 use Rattle.xp_base.specs.declared.answer.SendAnswer.{SendAnswer}
 use Rattle.xp_base.specs.History.{Marked}
-use Rattle.xp_rules.specs.declared.commands.Command.{Command}
+use Rattle.xp_rules.specs.declared.commands.ChannelCommand.{ChannelCommand}
 use Rattle.xp_rules.specs.declared.engage.Engagement.{Engagement}
 use Rattle.xp_rules.specs.declared.rule.RingRule.{RingRule}
 use Rattle.xp_rules.specs.declared.rule.RingRule.TheVariants.{ReadGet, WriteEntryWord, AcceptMessage}
@@ -34,7 +34,7 @@ pub record Underway (x : Scripted) (P : Type 0) : Type 0 where
   pub undecided : x.decided ≡ None
   pub is : P
 
-pub record EndCalm (x : Scripted) (o : Option Command) (q c : ℕ) (e : End) : Type 0 where
+pub record EndCalm (x : Scripted) (o : Option ChannelCommand) (q c : ℕ) (e : End) : Type 0 where
   pub sending : IsSome e.send.send → Underway x (SendsTo q c o)
   pub owing : e.stored < e.ack.front → Underway x (ReleasesAt q c o)
   pub begun : x.doing ≡ true → x.decided ≡ None → SendsTo q c o → e.warm ≡ true → IsSome e.send.send
@@ -44,11 +44,11 @@ pub record IsCalm (s : Setup) (st : State) : Type 0 where
   pub engages : length st.engages ≡ 8
   pub ends : (q c : ℕ) → EndCalm st.script (current s st) q c (end_of st q c)
 
-abbrev pub AllCalm : Scripted → Option Command → List (List End) → Type 0
+abbrev pub AllCalm : Scripted → Option ChannelCommand → List (List End) → Type 0
 AllCalm x o ends = (q c : ℕ) → EndCalm x o q c (end_at ends q c)
 
 -- an end with the same send, fronts and state
-pub like : (x : Scripted) (o : Option Command) (q c : ℕ) (a b : End) → EndCalm x o q c a → b.send.send ≡ a.send.send → b.send.entries ≡ a.send.entries → b.stored ≡ a.stored → b.ack.front ≡ a.ack.front → b.warm ≡ a.warm → EndCalm x o q c b
+pub like : (x : Scripted) (o : Option ChannelCommand) (q c : ℕ) (a b : End) → EndCalm x o q c a → b.send.send ≡ a.send.send → b.send.entries ≡ a.send.entries → b.stored ≡ a.stored → b.ack.front ≡ a.ack.front → b.warm ≡ a.warm → EndCalm x o q c b
 like x o q c a b i send entries stored front warm = record {
   sending = λ h. i.sending (subst (λ (y : Option Sendable). IsSome y) send h);
   owing = λ h. i.owing (omega (arith, h, stored, front));
@@ -56,7 +56,7 @@ like x o q c a b i send entries stored front warm = record {
   entries = omega (arith, i.entries, entries);
 }
 
-pub put_calm : (x : Scripted) (o : Option Command) (ends : List (List End)) (k d : ℕ) (new : End) → EndCalm x o k d new → AllCalm x o ends → AllCalm x o (set_end ends k d new)
+pub put_calm : (x : Scripted) (o : Option ChannelCommand) (ends : List (List End)) (k d : ℕ) (new : End) → EndCalm x o k d new → AllCalm x o ends → AllCalm x o (set_end ends k d new)
 put_calm x o ends k d new h each = put_all (λ q c e. EndCalm x o q c e) ends k d new h each
 
 -- a send ends with its answer
@@ -100,7 +100,7 @@ record Sent (a : Option SendAnswer) (e new : End) : Type 0 where
   stored : new.stored ≡ e.stored
   front : new.ack.front ≡ e.ack.front
 
-ring_all : (x : Scripted) (o : Option Command) (ends : List (List End)) (k d : ℕ) (new : End) (a : Option SendAnswer) → Sent a (end_at ends k d) new → AllCalm x o ends → AllCalm (send_decided a x) o (set_end ends k d new)
+ring_all : (x : Scripted) (o : Option ChannelCommand) (ends : List (List End)) (k d : ℕ) (new : End) (a : Option SendAnswer) → Sent a (end_at ends k d) new → AllCalm x o ends → AllCalm (send_decided a x) o (set_end ends k d new)
 unfolding Ends
 ring_all x o ends k d new None h each =
     let i = each k d in
@@ -120,7 +120,7 @@ ring_all x o ends k d new (Some a) h each = λ q c.
     })
 
 -- the store of get ends what was owed
-stored_all : (x y : Scripted) (o : Option Command) (ends : List (List End)) (k d : ℕ) → (end_at ends k d).stored < (end_at ends k d).ack.front → (end_at ends k d).warm ≡ true → AllCalm x o ends → AllCalm y o (set_end ends k d (end_acknowledged (end_at ends k d)))
+stored_all : (x y : Scripted) (o : Option ChannelCommand) (ends : List (List End)) (k d : ℕ) → (end_at ends k d).stored < (end_at ends k d).ack.front → (end_at ends k d).warm ≡ true → AllCalm x o ends → AllCalm y o (set_end ends k d (end_acknowledged (end_at ends k d)))
 stored_all x y o ends k d owes warm each = λ q c.
     let i = each k d in
     let u = i.owing owes in
@@ -142,11 +142,11 @@ heard_send None w x = by (is_bad_get x w) where
   by true = (refl, refl)
   by false = (refl, refl)
 
-pulled_calm : (x : Scripted) (o : Option Command) (q c : ℕ) (st : State) (e : End) (m : PullRule) (w : ℕ) → EndCalm x o q c e → EndCalm x o q c (end_pulled m w (pull_numbered st.copies m e))
+pulled_calm : (x : Scripted) (o : Option ChannelCommand) (q c : ℕ) (st : State) (e : End) (m : PullRule) (w : ℕ) → EndCalm x o q c e → EndCalm x o q c (end_pulled m w (pull_numbered st.copies m e))
 pulled_calm x o q c st e ReadCounters w i = let h = heard_send e.pull.counters w e.send in like x o q c e _ i h.0 h.1 refl refl refl
 pulled_calm x o q c st e ReadEntry w i = like x o q c e _ i refl refl refl refl refl
 
-failed_calm : (x : Scripted) (o : Option Command) (q c : ℕ) (st : State) (e : End) (m : PullRule) → EndCalm x o q c e → EndCalm x o q c (record (pull_numbered st.copies m e) { pull = pull_failed e.pull m })
+failed_calm : (x : Scripted) (o : Option ChannelCommand) (q c : ℕ) (st : State) (e : End) (m : PullRule) → EndCalm x o q c e → EndCalm x o q c (record (pull_numbered st.copies m e) { pull = pull_failed e.pull m })
 failed_calm x o q c st e ReadCounters i = like x o q c e _ i refl refl refl refl refl
 failed_calm x o q c st e ReadEntry i = like x o q c e _ i refl refl refl refl refl
 

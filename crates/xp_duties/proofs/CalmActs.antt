@@ -8,10 +8,10 @@ use Rattle.xp_base.specs.declared.answer.SendAnswer.TheVariants.{NotConnected}
 use Rattle.xp_base.specs.declared.answer.ReleaseAnswer.{ReleaseAnswer}
 use Rattle.xp_base.specs.declared.answer.ReleaseAnswer.TheVariants.{Ok as ReleaseOk}
 use Rattle.xp_base.specs.History.{Act, Begun, Answered, Noticed}
-use Rattle.xp_rules.specs.declared.commands.Command.{Command}
-use Rattle.xp_rules.specs.declared.commands.Command.TheVariants.{Send, Take, Release, Drain}
-use Rattle.xp_rules.specs.declared.log.LogAnswer.{LogAnswer}
-use Rattle.xp_rules.specs.declared.log.LogAnswer.TheVariants.{Send as SendAnswered, Release as ReleaseAnswered}
+use Rattle.xp_rules.specs.declared.commands.ChannelCommand.{ChannelCommand}
+use Rattle.xp_rules.specs.declared.commands.ChannelCommand.TheVariants.{Send, Take, Release, Drain}
+use Rattle.xp_script.specs.declared.log.LogAnswer.{LogAnswer}
+use Rattle.xp_script.specs.declared.log.LogAnswer.TheVariants.{Send as SendAnswered, Release as ReleaseAnswered}
 use Rattle.xp_rules.specs.declared.setup.Setup.{Setup}
 use Rattle.xp_rules.specs.Sending.{Send as Sendable, send_refusal, begun_unless}
 use Rattle.xp_rules.specs.Releasing.{Releasing, release_refusal, released_unless, release_begun, message_released}
@@ -28,10 +28,10 @@ pub record IsQuiet (e : End) : Type 0 where
   pub stored : e.stored < e.ack.front → ⊥
   pub entries : 0 < e.send.entries
 
-pub still : (x : Scripted) (o : Option Command) (q c : ℕ) (e : End) → x.doing ≡ false → IsQuiet e → EndCalm x o q c e
+pub still : (x : Scripted) (o : Option ChannelCommand) (q c : ℕ) (e : End) → x.doing ≡ false → IsQuiet e → EndCalm x o q c e
 still x o q c e f h = record { sending = λ g. absurd (h.unsent g); owing = λ g. absurd (h.stored g); begun = λ p. absurd (cc); entries = h.entries }
 
-other_end : (x : Scripted) (o : Option Command) (q c : ℕ) (e : End) → (SendsTo q c o → e.warm ≡ false) → IsQuiet e → EndCalm x o q c e
+other_end : (x : Scripted) (o : Option ChannelCommand) (q c : ℕ) (e : End) → (SendsTo q c o → e.warm ≡ false) → IsQuiet e → EndCalm x o q c e
 other_end x o q c e n h = record { sending = λ g. absurd (h.unsent g); owing = λ g. absurd (h.stored g); begun = λ p r t w. absurd (let f = n t in cc); entries = h.entries }
 
 begun_send : (n k d : ℕ) (payload : List ℕ) (wait notify : Bool) (m : Sendable) (e : End) (b : Bool) (r : Option SendAnswer) → IsQuiet e → EndCalm (record { begun = n; doing = true; decided = cond b (send_answered r) (Some (SendAnswered NotConnected)) }) (Some (Send k d payload wait notify)) k d (cond b (record e { send = begun_unless r m e.send }) e)
@@ -50,13 +50,13 @@ begun_release n k d number e b None h =
     moved n k d number e b (eqb e.ack.front y.front) y (ReleaseAnswered (ReleaseOk y.front)) (λ t. eqb-true e.ack.front y.front t) h
 begun_release n k d number e b (Some a) h = record { sending = λ g. absurd (h.unsent g); owing = λ g. absurd (h.stored g); begun = λ p r t. absurd t; entries = h.entries }
 
-begun_end : (n : ℕ) (x : Command) (e : End) → IsQuiet e → EndCalm (record { begun = n; doing = true; decided = decided_for e x }) (Some x) (partner_named x) (channel_named x) (end_begun e x)
+begun_end : (n : ℕ) (x : ChannelCommand) (e : End) → IsQuiet e → EndCalm (record { begun = n; doing = true; decided = decided_for e x }) (Some x) (partner_named x) (channel_named x) (end_begun e x)
 begun_end n (Send k d payload wait notify) e h = begun_send n k d payload wait notify (record { payload = payload; wait = wait; notify = notify }) e e.warm (send_refusal (link_of e) payload e.send) h
 begun_end n (Take k d wait) e h = record { sending = λ g. absurd (h.unsent g); owing = λ g. absurd (h.stored g); begun = λ p r t. absurd t; entries = h.entries }
 begun_end n (Release k d number) e h = begun_release n k d number e (not (eqb e.ack.front (release_begun (link_of e) number e.ack).front)) (release_refusal (link_of e) number e.ack) h
 begun_end n (Drain k d) e h = record { sending = λ g. absurd (h.unsent g); owing = λ g. absurd (h.stored g); begun = λ p r t. absurd t; entries = h.entries }
 
-send_named : (q c : ℕ) (x : Command) → SendsTo q c (Some x) → (q ≡ partner_named x) × (c ≡ channel_named x)
+send_named : (q c : ℕ) (x : ChannelCommand) → SendsTo q c (Some x) → (q ≡ partner_named x) × (c ≡ channel_named x)
 send_named q c (Send k d payload wait notify) t = (sym t.0, sym t.1)
 send_named q c (Take k d wait) t = absurd t
 send_named q c (Release k d number) t = absurd t
@@ -65,7 +65,7 @@ send_named q c (Drain k d) t = absurd t
 cold : (ends : List (List End)) (q c k d : ℕ) → q ≡ k → c ≡ d → (end_at ends k d).warm ≡ false → (end_at ends q c).warm ≡ false
 cold ends q c k d e f h = ap (λ (n : ℕ). (end_at ends n c).warm) e ∙ ap (λ (n : ℕ). (end_at ends k n).warm) f ∙ h
 
-begun_all : (n : ℕ) (x : Command) (ends : List (List End)) → ((q c : ℕ) → IsQuiet (end_at ends q c)) → AllCalm (record { begun = n; doing = true; decided = decided_for (end_at ends (partner_named x) (channel_named x)) x }) (Some x) (set_end ends (partner_named x) (channel_named x) (end_begun (end_at ends (partner_named x) (channel_named x)) x))
+begun_all : (n : ℕ) (x : ChannelCommand) (ends : List (List End)) → ((q c : ℕ) → IsQuiet (end_at ends q c)) → AllCalm (record { begun = n; doing = true; decided = decided_for (end_at ends (partner_named x) (channel_named x)) x }) (Some x) (set_end ends (partner_named x) (channel_named x) (end_begun (end_at ends (partner_named x) (channel_named x)) x))
 begun_all n x ends quiet = λ q c.
     let k = partner_named x in
     let d = channel_named x in
@@ -75,12 +75,12 @@ begun_all n x ends quiet = λ q c.
     (λ e f. subst (λ (i : ℕ). EndCalm y (Some x) i c new) (sym e) (subst (λ (j : ℕ). EndCalm y (Some x) k j new) (sym f) (begun_end n x (end_at ends k d) (quiet k d))))
     (λ other. other_end y (Some x) q c (end_at ends q c) (λ t. let z = send_named q c x t in cold ends q c k d z.0 z.1 (other z.0 z.1)) (quiet q c))
 
-quiet_idle : (x : Scripted) (o : Option Command) (q c : ℕ) (e : End) → x.doing ≡ false → EndCalm x o q c e → IsQuiet e
+quiet_idle : (x : Scripted) (o : Option ChannelCommand) (q c : ℕ) (e : End) → x.doing ≡ false → EndCalm x o q c e → IsQuiet e
 quiet_idle x o q c e f i = record { unsent = λ g. let u = i.sending g in cc2 u.doing f; stored = λ g. let u = i.owing g in cc2 u.doing f; entries = i.entries } where
   cc2 : x.doing ≡ true → x.doing ≡ false → ⊥
   cc2 a b = cc
 
-begun_calm : (s : Setup) (st : State) (o : Option Command) → o ≡ upcoming s st → st.script.doing ≡ false → IsCalm s st → IsCalm s (begun_with st o)
+begun_calm : (s : Setup) (st : State) (o : Option ChannelCommand) → o ≡ upcoming s st → st.script.doing ≡ false → IsCalm s st → IsCalm s (begun_with st o)
 begun_calm s st None e f i = i
 begun_calm s st (Some x) e f i =
     let k : st.script.begun + 1 - 1 ≡ st.script.begun = omega arith in
@@ -88,7 +88,7 @@ begun_calm s st (Some x) e f i =
     let y : Scripted = record { begun = st.script.begun + 1; doing = true; decided = decided_for (end_named st x) x } in
     record {
       engages = i.engages;
-      ends = subst (λ (o : Option Command). AllCalm y o (set_end st.ends (partner_named x) (channel_named x) (end_begun (end_named st x) x))) (sym now) (begun_all (st.script.begun + 1) x st.ends (λ q c. quiet_idle st.script (current s st) q c (end_of st q c) f (i.ends q c)));
+      ends = subst (λ (o : Option ChannelCommand). AllCalm y o (set_end st.ends (partner_named x) (channel_named x) (end_begun (end_named st x) x))) (sym now) (begun_all (st.script.begun + 1) x st.ends (λ q c. quiet_idle st.script (current s st) q c (end_of st q c) f (i.ends q c)));
     }
 
 -- while something is under way no answer is due
@@ -118,7 +118,7 @@ act_calm s st Answered m i = record {
   engages = i.engages;
   ends = λ q c. still (script_answered st.script) _ q c _ refl (at_answered IsQuiet taken_quiet st (current s st) st.script.decided q c (quiet_due s st q c m (i.ends q c)));
 }
-act_calm s st (Noticed k d) m i = record {
+act_calm s st (Noticed k d number kind) m i = record {
   engages = i.engages;
   ends = put_calm st.script (current s st) st.ends k d (end_noticed (end_of st k d)) (like st.script (current s st) k d (end_of st k d) (end_noticed (end_of st k d)) (i.ends k d) refl refl refl refl refl) i.ends;
 }

@@ -4,9 +4,9 @@ use Rattle.std.specs.Prelude.{IsSome}
 use Rattle.std.specs.Int.{trailing_ones, w16}
 use Rattle.std.proofs.lemmas.Bool.{lt-ltb, leb-true}
 use Rattle.xp_base.specs.History.{Noticed, Turn}
-use Rattle.xp_rules.specs.declared.commands.Command.{Command}
-use Rattle.xp_rules.specs.declared.commands.Command.TheVariants.{Send, Take, Release, Drain}
-use Rattle.xp_rules.specs.declared.log.LogAnswer.{LogAnswer}
+use Rattle.xp_rules.specs.declared.commands.ChannelCommand.{ChannelCommand}
+use Rattle.xp_rules.specs.declared.commands.ChannelCommand.TheVariants.{Send, Take, Release, Drain}
+use Rattle.xp_script.specs.declared.log.LogAnswer.{LogAnswer}
 use Rattle.xp_rules.specs.declared.rule.RingRule.{RingRule}
 use Rattle.xp_rules.specs.declared.rule.RingRule.TheVariants.{ReadGet, WriteEntryWord, AcceptMessage}
 use Rattle.xp_rules.specs.declared.rule.Rule.TheVariants.{Ring, Acknowledge}
@@ -37,16 +37,16 @@ undecided true (Some a) later e f = absurd (cc)
 undecided false d later e f = absurd (cc)
 
 -- no answer is due to a send or a release that isn't decided
-due_none : (s : Setup) (st : State) (x : Command) (q c : ℕ) → due_to st (Some x) ≡ None → Goes s x q c st → due s st ≡ None
-due_none s st x q c e g = undue st.script (due_to st (current s st)) g.undecided (ap (λ (o : Option Command). due_to st o) g.now ∙ e)
+due_none : (s : Setup) (st : State) (x : ChannelCommand) (q c : ℕ) → due_to st (Some x) ≡ None → Goes s x q c st → due s st ≡ None
+due_none s st x q c e g = undue st.script (due_to st (current s st)) g.undecided (ap (λ (o : Option ChannelCommand). due_to st o) g.now ∙ e)
 
 -- a send
-record Sends (s : Setup) (x : Command) (q c : ℕ) (st : State) : Type 0 where
+record Sends (s : Setup) (x : ChannelCommand) (q c : ℕ) (st : State) : Type 0 where
   goes : Goes s x q c st
   some : IsSome (end_of st q c).send.send
   entries : 0 < (end_of st q c).send.entries
 
-sends_same : (s : Setup) (x : Command) (q c : ℕ) (a b : State) → Same q c a b → Sends s x q c a → Sends s x q c b
+sends_same : (s : Setup) (x : ChannelCommand) (q c : ℕ) (a b : State) → Same q c a b → Sends s x q c a → Sends s x q c b
 sends_same s x q c a b h i = record {
   goes = goes_same s x q c a b h i.goes;
   some = subst (λ (o : Option Sendable). IsSome o) (sym h.send) i.some;
@@ -73,7 +73,7 @@ module _ (s : Setup) (q c : ℕ) (payload : List ℕ) (wait notify : Bool) where
   sends_walk n st ts some long f h =
       let x = Send q c payload wait notify in
       script_walk s q (Sends s x q c) (SendsOn q c) 0
-      (quiet_acts s q c (Sends s x q c) (λ y i. (i.goes.doing, due_none s y x q c refl i.goes)) (λ y k d i j. sends_same s x q c y (after_act s y (Noticed k d)) j i))
+      (quiet_acts s q c (Sends s x q c) (λ y i. (i.goes.doing, due_none s y x q c refl i.goes)) (λ y k d number kind i j. sends_same s x q c y (after_act s y (Noticed k d number kind)) j i))
       (λ y r a e can i. inr (sends_same s x q c y (after_answer y r a) (serves y r a q c e) i))
       (λ k y t us g r e i.
       let mid = middle s y t in
@@ -86,22 +86,22 @@ module _ (s : Setup) (q c : ℕ) (payload : List ℕ) (wait notify : Bool) where
   sends_made n st ts calm fit now going long f =
       let u = undecided st.script.doing st.script.decided (due_to st (current s st)) going.doing going.undue in
       let i = calm.ends q c in
-      let some = i.begun going.doing u.0 (subst (λ (o : Option Command). SendsTo q c o) (sym now) (refl, refl)) going.warm in
+      let some = i.begun going.doing u.0 (subst (λ (o : Option ChannelCommand). SendsTo q c o) (sym now) (refl, refl)) going.warm in
       sends_walk n st ts (linked s st q c fit going.warm) long f (record { goes = record { doing = going.doing; undecided = u.0; now = now; warm = going.warm }; some = some; entries = i.entries })
 
 -- a store of get
-record Owes (s : Setup) (x : Command) (q c : ℕ) (st : State) : Type 0 where
+record Owes (s : Setup) (x : ChannelCommand) (q c : ℕ) (st : State) : Type 0 where
   goes : Goes s x q c st
   owes : (end_of st q c).stored < (end_of st q c).ack.front
 
-owes_same : (s : Setup) (x : Command) (q c : ℕ) (a b : State) → Same q c a b → Owes s x q c a → Owes s x q c b
+owes_same : (s : Setup) (x : ChannelCommand) (q c : ℕ) (a b : State) → Same q c a b → Owes s x q c a → Owes s x q c b
 owes_same s x q c a b h i = record { goes = goes_same s x q c a b h i.goes; owes = omega (arith, i.owes, h.stored, h.front) }
 
-record Releases (q c : ℕ) (o : Option Command) : Type 0 where
+record Releases (q c : ℕ) (o : Option ChannelCommand) : Type 0 where
   number : ℕ
   is : o ≡ Some (Release q c number)
 
-releases : (q c : ℕ) (o : Option Command) → ReleasesAt q c o → Releases q c o
+releases : (q c : ℕ) (o : Option ChannelCommand) → ReleasesAt q c o → Releases q c o
 releases q c None r = absurd r
 releases q c (Some (Send k d payload wait notify)) r = absurd r
 releases q c (Some (Take k d wait)) r = absurd r
@@ -116,7 +116,7 @@ module _ (s : Setup) (q c number : ℕ) where
   owes_walk n st ts some long f h =
       let x = Release q c number in
       script_walk s q (Owes s x q c) (Acknowledges q c) 0
-      (quiet_acts s q c (Owes s x q c) (λ y i. (i.goes.doing, due_none s y x q c refl i.goes)) (λ y k d i j. owes_same s x q c y (after_act s y (Noticed k d)) j i))
+      (quiet_acts s q c (Owes s x q c) (λ y i. (i.goes.doing, due_none s y x q c refl i.goes)) (λ y k d number kind i j. owes_same s x q c y (after_act s y (Noticed k d number kind)) j i))
       (λ y r a e can i. inr (owes_same s x q c y (after_answer y r a) (serves y r a q c e) i))
       (λ k y t us g r e i.
       let mid = middle s y t in

@@ -4,8 +4,8 @@ use Rattle.std.proofs.lemmas.Bool.{or_cases}
 use Rattle.xp_base.specs.declared.step.Answer.{Answer}
 use Rattle.xp_base.specs.declared.step.Answer.TheVariants.{Word, Failed}
 use Rattle.xp_base.specs.History.{Turn}
-use Rattle.xp_rules.specs.declared.commands.Command.{Command}
-use Rattle.xp_rules.specs.declared.commands.Command.TheVariants.{Send, Take, Release, Drain}
+use Rattle.xp_rules.specs.declared.commands.ChannelCommand.{ChannelCommand}
+use Rattle.xp_rules.specs.declared.commands.ChannelCommand.TheVariants.{Send, Take, Release, Drain}
 use Rattle.xp_rules.specs.declared.rule.RingRule.{RingRule}
 use Rattle.xp_rules.specs.declared.rule.RingRule.TheVariants.{ReadGet, WriteEntryWord, AcceptMessage}
 use Rattle.xp_rules.specs.declared.rule.PullRule.{PullRule}
@@ -61,7 +61,7 @@ cond_owes : (b : Bool) (a e : End) → a.owes_message ≡ e.owes_message → (co
 cond_owes true a e h = h
 cond_owes false a e h = refl
 
-begun_owes : (e : End) (x : Command) → (end_begun e x).owes_message ≡ e.owes_message
+begun_owes : (e : End) (x : ChannelCommand) → (end_begun e x).owes_message ≡ e.owes_message
 begun_owes e (Send k d payload wait notify) = cond_owes e.warm _ e refl
 begun_owes e (Take k d wait) = refl
 begun_owes e (Release k d number) = refl

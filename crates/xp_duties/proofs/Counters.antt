@@ -1,13 +1,14 @@
 -- What steps leave of a copy of the counters that is owed, or that goes on.
 use Rattle.std.proofs.Common.{◌≡◌, ℕ, Bool, true, false, cond, eqb, List, [], ◌∷◌, ◌++◌, length, refl, ap, sym, ◌∙◌, subst, inl, inr, ◌⊎◌, Option, Some, None}
 use Rattle.std.specs.Prelude.{IsSome}
+use Rattle.xp_base.specs.declared.layout.TheConstants.{LINE_WORDS}
 use Rattle.xp_base.specs.declared.reason.Reason.{Reason}
 use Rattle.xp_base.specs.declared.reason.Reason.TheVariants.{BadCounters}
 use Rattle.xp_base.specs.declared.step.Answer.{Answer}
 use Rattle.xp_base.specs.declared.step.Answer.TheVariants.{Word, Failed}
 use Rattle.xp_base.specs.declared.answer.TakeAnswer.{TakeAnswer}
-use Rattle.xp_rules.specs.declared.commands.Command.{Command}
-use Rattle.xp_rules.specs.declared.commands.Command.TheVariants.{Send, Take, Release, Drain}
+use Rattle.xp_rules.specs.declared.commands.ChannelCommand.{ChannelCommand}
+use Rattle.xp_rules.specs.declared.commands.ChannelCommand.TheVariants.{Send, Take, Release, Drain}
 use Rattle.xp_rules.specs.declared.rule.PullRule.TheVariants.{ReadCounters, ReadEntry}
 use Rattle.xp_rules.specs.declared.rule.Rule.{Rule}
 use Rattle.xp_rules.specs.declared.rule.Rule.TheVariants.{Ring, Pull, Acknowledge, TakeFlags, SetFlag}
@@ -34,7 +35,7 @@ copied_left None words x = (refl, refl)
 copied_left (Some r) words x = (refl, refl)
 
 entry_left : (words : List ℕ) (x : Pulling) → ((entry_after words x).counters ≡ x.counters) × ((entry_after words x).owed ≡ x.owed)
-entry_left words x = by (eqb (length words) 16) where
+entry_left words x = by (eqb (length words) LINE_WORDS) where
   by : (b : Bool) → ((cond b (entry_copied (entry_fault x words) words x) (record x { copied = words })).counters ≡ x.counters) × ((cond b (entry_copied (entry_fault x words) words x) (record x { copied = words })).owed ≡ x.owed)
   by true = copied_left (entry_fault x words) words x
   by false = (refl, refl)
@@ -126,7 +127,7 @@ taking_keeps f h None wait x = h x wait
 taking_keeps f h (Some a) wait x = refl
 
 -- what no take changes of the pulling side stays when a command is begun
-pub begun_pull : {B : Type 0} (f : Pulling → B) → ((x : Pulling) (wait : Bool) → f (record x { take = Some wait; empty = None }) ≡ f x) → (e : End) (x : Command) → f (end_begun e x).pull ≡ f e.pull
+pub begun_pull : {B : Type 0} (f : Pulling → B) → ((x : Pulling) (wait : Bool) → f (record x { take = Some wait; empty = None }) ≡ f x) → (e : End) (x : ChannelCommand) → f (end_begun e x).pull ≡ f e.pull
 begun_pull f h e (Send k d payload wait notify) = cond_pull f e.warm _ e refl
 begun_pull f h e (Take k d wait) = taking_keeps f h (take_refusal (link_of e)) wait e.pull
 begun_pull f h e (Release k d number) = refl

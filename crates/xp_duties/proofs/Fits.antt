@@ -1,20 +1,21 @@
 -- What holds of each end at all times: it is connected only by a link, owes only where it is connected, and has cached what it pulled and not taken.
 use Rattle.std.proofs.Common.{◌≡◌, ℕ, suc, ◌+◌, Bool, true, false, cond, eqb, List, [], ◌∷◌, ◌++◌, length, refl, ap, sym, ◌∙◌, subst, arith, length-append, Option, Some, None}
 use Rattle.std.specs.Prelude.{IsSome}
+use Rattle.xp_base.specs.declared.layout.TheConstants.{LINE_WORDS}
 use Rattle.xp_base.specs.declared.reason.Reason.{Reason}
 use Rattle.xp_base.specs.declared.step.Answer.{Answer}
 use Rattle.xp_base.specs.declared.step.Answer.TheVariants.{Word, Failed}
 use Rattle.xp_base.specs.declared.answer.TakeAnswer.{TakeAnswer}
 use Rattle.xp_base.specs.Entries.{body_of}
 use Rattle.xp_base.specs.History.{Act, Begun, Answered, Noticed, Marked}
-use Rattle.xp_rules.specs.declared.commands.Command.{Command}
-use Rattle.xp_rules.specs.declared.commands.Command.TheVariants.{Send, Take, Release, Drain}
-use Rattle.xp_rules.specs.declared.log.LogAnswer.{LogAnswer}
+use Rattle.xp_rules.specs.declared.commands.ChannelCommand.{ChannelCommand}
+use Rattle.xp_rules.specs.declared.commands.ChannelCommand.TheVariants.{Send, Take, Release, Drain}
+use Rattle.xp_script.specs.declared.log.LogAnswer.{LogAnswer}
 use Rattle.xp_rules.specs.declared.rule.PullRule.{PullRule}
 use Rattle.xp_rules.specs.declared.rule.PullRule.TheVariants.{ReadCounters, ReadEntry}
 use Rattle.xp_rules.specs.declared.rule.Rule.{Rule}
 use Rattle.xp_rules.specs.declared.rule.Rule.TheVariants.{Ring, Pull, Acknowledge, TakeFlags, SetFlag}
-use Rattle.xp_rules.specs.declared.setup.Link.{Link}
+use Rattle.xp_script.specs.declared.part.Link.{Link}
 use Rattle.xp_rules.specs.declared.setup.Setup.{Setup}
 use Rattle.xp_rules.specs.Pulling.{Pulling, Beside, is_bad_counter, is_bad_put, get_loaded, put_loaded, counters_after, entry_fault, entry_copied, entry_after, pull_after, pull_failed, take_refusal, taking_unless, take_due, take_answered, found, found_by, cache_taken, shown_empty}
 use Rattle.xp_rules.specs.State.{State, End, end_at, end_of, set_end, link_of}
@@ -83,7 +84,7 @@ copied_whole None words x h = omega (arith, h, length-append x.cache (body_of wo
 copied_whole (Some reason) words x h = h
 
 entry_whole : (words : List ℕ) (x : Pulling) → IsWhole x → IsWhole (entry_after words x)
-entry_whole words x h = by (eqb (length words) 16) where
+entry_whole words x h = by (eqb (length words) LINE_WORDS) where
   by : (t : Bool) → IsWhole (cond t (entry_copied (entry_fault x words) words x) (record x { copied = words }))
   by true = copied_whole (entry_fault x words) words x h
   by false = h
@@ -133,13 +134,13 @@ taking_fit : (s : Setup) (q c : ℕ) (e : End) (o : Option TakeAnswer) (wait : B
 taking_fit s q c e None wait i = record { link = i.link; owed = i.owed; request = i.request; whole = i.whole }
 taking_fit s q c e (Some a) wait i = fit_like s q c e (record e { pull = e.pull }) refl refl refl i
 
-begun_fit : (s : Setup) (x : Command) (e : End) → EndFit s (partner_named x) (channel_named x) e → EndFit s (partner_named x) (channel_named x) (end_begun e x)
+begun_fit : (s : Setup) (x : ChannelCommand) (e : End) → EndFit s (partner_named x) (channel_named x) e → EndFit s (partner_named x) (channel_named x) (end_begun e x)
 begun_fit s (Send k d payload wait notify) e i = sending_fit s k d e e.warm (record e { send = send_begun (link_of e) (record { payload = payload; wait = wait; notify = notify }) e.send }) refl refl refl i
 begun_fit s (Take k d wait) e i = taking_fit s k d e (take_refusal (link_of e)) wait i
 begun_fit s (Release k d number) e i = fit_like s k d e (end_begun e (Release k d number)) refl refl refl i
 begun_fit s (Drain k d) e i = i
 
-begin_fit : (s : Setup) (st : State) (o : Option Command) → IsFit s st → IsFit s (begun_with st o)
+begin_fit : (s : Setup) (st : State) (o : Option ChannelCommand) → IsFit s st → IsFit s (begun_with st o)
 begin_fit s st None i = i
 begin_fit s st (Some x) i = put_fit s st.ends (partner_named x) (channel_named x) (end_begun (end_named st x) x) (begun_fit s x (end_named st x)) i
 
@@ -171,7 +172,7 @@ due_told true None later e h = h
 due_told true (Some a) later e h = absurd (cc)
 due_told false d later e h = absurd (cc)
 
-answering_fit : (s : Setup) (st : State) (o : Option Command) (a : Option LogAnswer) → (a ≡ None → IsSome (due_to st o)) → IsFit s st → AllFit s (ends_answered st o a)
+answering_fit : (s : Setup) (st : State) (o : Option ChannelCommand) (a : Option LogAnswer) → (a ≡ None → IsSome (due_to st o)) → IsFit s st → AllFit s (ends_answered st o a)
 answering_fit s st (Some (Take k d wait)) None h i = put_fit s st.ends k d (end_answered (end_of st k d)) (answered_fit s k d (end_of st k d) (h refl)) i
 answering_fit s st (Some (Take k d wait)) (Some a) h i = i
 answering_fit s st (Some (Send k d payload wait notify)) a h i = i
@@ -182,7 +183,7 @@ answering_fit s st None a h i = i
 act_fit : (s : Setup) (st : State) (a : Act) → MayAct s st a → IsFit s st → IsFit s (after_act s st a)
 act_fit s st Begun m i = begin_fit s st (upcoming s st) i
 act_fit s st Answered m i = answering_fit s st (current s st) st.script.decided (λ e. due_told st.script.doing st.script.decided (due_to st (current s st)) e m) i
-act_fit s st (Noticed k d) m i = put_fit s st.ends k d (end_noticed (end_of st k d)) (fit_like s k d (end_of st k d) (end_noticed (end_of st k d)) refl refl refl) i
+act_fit s st (Noticed k d number kind) m i = put_fit s st.ends k d (end_noticed (end_of st k d)) (fit_like s k d (end_of st k d) (end_noticed (end_of st k d)) refl refl refl) i
 
 pub acts_fit : (s : Setup) (st : State) (acts : List Act) → MayActs s st acts → IsFit s st → IsFit s (after_acts s st acts)
 acts_fit s st [] m i = i

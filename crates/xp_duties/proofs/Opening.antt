@@ -1,7 +1,7 @@
 -- From the opening on, what is under way is that of the command in progress, and each end that is connected has its link.
 use Rattle.std.proofs.Common.{◌≡◌, ℕ, ◌<◌, List, [], ◌∷◌, length, refl, arith, None}
 use Rattle.xp_base.specs.History.{Turn}
-use Rattle.xp_rules.specs.declared.setup.Link.{Link}
+use Rattle.xp_script.specs.declared.part.Link.{Link}
 use Rattle.xp_rules.specs.declared.setup.Setup.{Setup}
 use Rattle.xp_rules.specs.Setup.{IsLawfulSetup}
 use Rattle.xp_rules.specs.State.{State, End, start, end_of, idle_end, warm_end, no_engagements}

@@ -4,7 +4,7 @@ use Rattle.std.specs.List.{slice_get}
 use Rattle.std.proofs.lemmas.Bool.{cases_lt, ne_eqb, eq-eqb}
 use Rattle.std.proofs.lemmas.Nat.{mod-mul-add, div-add-mod'}
 use Rattle.std.proofs.Math.Nat.{mod-lt}
-use Rattle.xp_rules.specs.declared.setup.Link.{Link}
+use Rattle.xp_script.specs.declared.part.Link.{Link}
 use Rattle.xp_rules.specs.declared.setup.Setup.{Setup}
 use Rattle.xp_rules.specs.State.{State}
 use Rattle.xp_duties.specs.Plan.{position, is_of_script, service_on, service_at}

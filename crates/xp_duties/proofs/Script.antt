@@ -5,13 +5,13 @@ use Rattle.std.specs.List.{slice_get}
 use Rattle.xp_base.specs.declared.reason.Reason.{Reason}
 use Rattle.xp_base.specs.declared.step.Answer.{Answer}
 use Rattle.xp_base.specs.declared.step.Answer.TheVariants.{Word, Failed}
-use Rattle.xp_base.specs.History.{Act, Begun, Answered, Noticed, Turn}
-use Rattle.xp_rules.specs.declared.commands.Command.{Command}
-use Rattle.xp_rules.specs.declared.log.LogAnswer.{LogAnswer}
+use Rattle.xp_base.specs.History.{Act, Begun, Answered, Noticed, Turn, NoticeKind}
+use Rattle.xp_rules.specs.declared.commands.ChannelCommand.{ChannelCommand}
+use Rattle.xp_script.specs.declared.log.LogAnswer.{LogAnswer}
 use Rattle.xp_rules.specs.declared.rule.PullRule.TheVariants.{ReadCounters, ReadEntry}
 use Rattle.xp_rules.specs.declared.rule.Rule.{Rule}
 use Rattle.xp_rules.specs.declared.rule.Rule.TheVariants.{Ring, Pull, Acknowledge, TakeFlags, SetFlag}
-use Rattle.xp_rules.specs.declared.setup.Link.{Link}
+use Rattle.xp_script.specs.declared.part.Link.{Link}
 use Rattle.xp_rules.specs.declared.setup.Setup.{Setup}
 use Rattle.xp_rules.specs.State.{State, Scripted, end_of}
 use Rattle.xp_rules.specs.Rules.{Can, after_answer}
@@ -111,8 +111,8 @@ serves st (SetFlag k d) (Word w) q c h = record {
 }
 serves st (SetFlag k d) Failed q c h = record { script = refl; warm = refl; send = refl; entries = refl; stored = refl; front = refl }
 
-notices : (s : Setup) (st : State) (k d q c : ℕ) → Same q c st (after_act s st (Noticed k d))
-notices s st k d q c = record {
+notices : (s : Setup) (st : State) (k d number : ℕ) (kind : NoticeKind) (q c : ℕ) → Same q c st (after_act s st (Noticed k d number kind))
+notices s st k d number kind q c = record {
   script = refl;
   warm = stays_end (λ x. x.warm) st.ends k d (end_noticed (end_of st k d)) q c refl;
   send = stays_end (λ x. x.send.send) st.ends k d (end_noticed (end_of st k d)) q c refl;
@@ -122,13 +122,13 @@ notices s st k d q c = record {
 }
 
 -- a command x goes on: it isn't answered yet, and its end is connected
-pub record Goes (s : Setup) (x : Command) (q c : ℕ) (st : State) : Type 0 where
+pub record Goes (s : Setup) (x : ChannelCommand) (q c : ℕ) (st : State) : Type 0 where
   pub doing : st.script.doing ≡ true
   pub undecided : st.script.decided ≡ None
   pub now : current s st ≡ Some x
   pub warm : (end_of st q c).warm ≡ true
 
-pub goes_same : (s : Setup) (x : Command) (q c : ℕ) (a b : State) → Same q c a b → Goes s x q c a → Goes s x q c b
+pub goes_same : (s : Setup) (x : ChannelCommand) (q c : ℕ) (a b : State) → Same q c a b → Goes s x q c a → Goes s x q c b
 goes_same s x q c a b h g = record {
   doing = ap (λ (y : Scripted). y.doing) h.script ∙ g.doing;
   undecided = ap (λ (y : Scripted). y.decided) h.script ∙ g.undecided;
@@ -137,19 +137,19 @@ goes_same s x q c a b h g = record {
 }
 
 -- its acts are notices alone, so that what they leave stands
-pub quiet_acts : (s : Setup) (q c : ℕ) (C : State → Type 0) → ((x : State) → C x → (x.script.doing ≡ true) × (due s x ≡ None)) → ((x : State) (k d : ℕ) → C x → Same q c x (after_act s x (Noticed k d)) → C (after_act s x (Noticed k d))) → KeptByActs s C
+pub quiet_acts : (s : Setup) (q c : ℕ) (C : State → Type 0) → ((x : State) → C x → (x.script.doing ≡ true) × (due s x ≡ None)) → ((x : State) (k d number : ℕ) (kind : NoticeKind) → C x → Same q c x (after_act s x (Noticed k d number kind)) → C (after_act s x (Noticed k d number kind))) → KeptByActs s C
 quiet_acts s q c C is keep = λ x a m h. by x a m h where
   by : (x : State) (a : Act) → MayAct s x a → C x → C (after_act s x a)
   by x Begun m h = absurd (let g = (is x h).0 in let f = m.0 in cc)
   by x Answered m h = absurd (none_some (due s x) (is x h).1 m)
-  by x (Noticed k d) m h = keep x k d h (notices s x k d q c)
+  by x (Noticed k d number kind) m h = keep x k d number kind h (notices s x k d number kind q c)
 
 -- what the script plans for it
-pub going_plan : (s : Setup) (st : State) (x : Command) → Goes s x (partner_named x) (channel_named x) st → IsFree (partner_named x) st → script_plan s st ≡ end_plan (end_named st x) x
+pub going_plan : (s : Setup) (st : State) (x : ChannelCommand) → Goes s x (partner_named x) (channel_named x) st → IsFree (partner_named x) st → script_plan s st ≡ end_plan (end_named st x) x
 going_plan s st x g free =
     ap (λ (b : Bool). cond (not b || is_some st.script.decided) None (plan_for st (current s st))) g.doing
     ∙ ap (λ (o : Option LogAnswer). cond (is_some o) None (plan_for st (current s st))) g.undecided
-    ∙ ap (λ (o : Option Command). plan_for st o) g.now
+    ∙ ap (λ (o : Option ChannelCommand). plan_for st o) g.now
     ∙ ap (λ (o : Option Reason). cond (is_some o) None (cond (end_named st x).warm (end_plan (end_named st x) x) None)) free
     ∙ ap (λ (b : Bool). cond b (end_plan (end_named st x) x) None) g.warm
 

@@ -5,9 +5,9 @@ use Rattle.std.proofs.lemmas.Bool.{cases_lt, ltb-true, ltb-false, le-ltb, ne_eqb
 use Rattle.xp_base.specs.declared.step.Answer.{Answer}
 use Rattle.xp_base.specs.declared.step.Answer.TheVariants.{Word, Failed}
 use Rattle.xp_base.specs.declared.answer.TakeAnswer.{TakeAnswer}
-use Rattle.xp_base.specs.History.{Noticed, Turn}
-use Rattle.xp_rules.specs.declared.commands.Command.{Command}
-use Rattle.xp_rules.specs.declared.commands.Command.TheVariants.{Take}
+use Rattle.xp_base.specs.History.{Noticed, Turn, NoticeKind}
+use Rattle.xp_rules.specs.declared.commands.ChannelCommand.{ChannelCommand}
+use Rattle.xp_rules.specs.declared.commands.ChannelCommand.TheVariants.{Take}
 use Rattle.xp_rules.specs.declared.rule.PullRule.TheVariants.{ReadCounters, ReadEntry}
 use Rattle.xp_rules.specs.declared.rule.Rule.{Rule}
 use Rattle.xp_rules.specs.declared.rule.Rule.TheVariants.{Ring, Pull, Acknowledge, TakeFlags, SetFlag}
@@ -105,19 +105,19 @@ abbrev pull_at : ℕ → ℕ → State → Pulling
 pull_at q c st = (end_of st q c).pull
 
 -- a take that goes on, and one whose get was loaded
-record Takes (s : Setup) (x : Command) (q c : ℕ) (st : State) : Type 0 where
+record Takes (s : Setup) (x : ChannelCommand) (q c : ℕ) (st : State) : Type 0 where
   goes : Goes s x q c st
   unfound : Unfound (end_of st q c).pull
 
-record Heard (s : Setup) (x : Command) (q c : ℕ) (st : State) : Type 0 where
+record Heard (s : Setup) (x : ChannelCommand) (q c : ℕ) (st : State) : Type 0 where
   takes : Takes s x q c st
   going : IsSome (end_of st q c).pull.counters
   low : (end_of st q c).pull.pulled_put ≤ (end_of st q c).pull.pulled
 
-takes_like : (s : Setup) (x : Command) (q c : ℕ) (a b : State) → Same q c a b → unowed (end_of b q c).pull ≡ unowed (end_of a q c).pull → Takes s x q c a → Takes s x q c b
+takes_like : (s : Setup) (x : ChannelCommand) (q c : ℕ) (a b : State) → Same q c a b → unowed (end_of b q c).pull ≡ unowed (end_of a q c).pull → Takes s x q c a → Takes s x q c b
 takes_like s x q c a b h e i = record { goes = goes_same s x q c a b h i.goes; unfound = unfound_like (end_of a q c).pull (end_of b q c).pull e i.unfound }
 
-heard_like : (s : Setup) (x : Command) (q c : ℕ) (a b : State) → Same q c a b → unowed (end_of b q c).pull ≡ unowed (end_of a q c).pull → Heard s x q c a → Heard s x q c b
+heard_like : (s : Setup) (x : ChannelCommand) (q c : ℕ) (a b : State) → Same q c a b → unowed (end_of b q c).pull ≡ unowed (end_of a q c).pull → Heard s x q c a → Heard s x q c b
 unfolding unowed
 heard_like s x q c a b h e i =
     let pulled : (end_of b q c).pull.pulled ≡ (end_of a q c).pull.pulled = ap (λ (p : Pulling). p.pulled) e in
@@ -128,20 +128,20 @@ heard_like s x q c a b h e i =
       low = omega (arith, pulled, put, i.low);
     }
 
-noticed_pull : (s : Setup) (st : State) (k d q c : ℕ) → unowed (end_of (after_act s st (Noticed k d)) q c).pull ≡ unowed (end_of st q c).pull
+noticed_pull : (s : Setup) (st : State) (k d number : ℕ) (kind : NoticeKind) (q c : ℕ) → unowed (end_of (after_act s st (Noticed k d number kind)) q c).pull ≡ unowed (end_of st q c).pull
 unfolding unowed
-noticed_pull s st k d q c = stays_end (λ e. unowed e.pull) st.ends k d (end_noticed (end_of st k d)) q c refl
+noticed_pull s st k d number kind q c = stays_end (λ e. unowed e.pull) st.ends k d (end_noticed (end_of st k d)) q c refl
 
 module _ (s : Setup) (q c : ℕ) (wait : Bool) where
   none_due : (st : State) → Takes s (Take q c wait) q c st → due s st ≡ None
   none_due st i =
-      undue st.script (due_to st (current s st)) i.goes.undecided (ap (λ (o : Option Command). due_to st o) i.goes.now ∙ ap (λ (o : Option TakeAnswer). take_told o) i.unfound.due)
+      undue st.script (due_to st (current s st)) i.goes.undecided (ap (λ (o : Option ChannelCommand). due_to st o) i.goes.now ∙ ap (λ (o : Option TakeAnswer). take_told o) i.unfound.due)
 
   takes_acts : KeptByActs s (Takes s (Take q c wait) q c)
-  takes_acts = quiet_acts s q c (Takes s (Take q c wait) q c) (λ y i. (i.goes.doing, none_due y i)) (λ y k d i j. takes_like s (Take q c wait) q c y (after_act s y (Noticed k d)) j (noticed_pull s y k d q c) i)
+  takes_acts = quiet_acts s q c (Takes s (Take q c wait) q c) (λ y i. (i.goes.doing, none_due y i)) (λ y k d number kind i j. takes_like s (Take q c wait) q c y (after_act s y (Noticed k d number kind)) j (noticed_pull s y k d number kind q c) i)
 
   heard_acts : KeptByActs s (Heard s (Take q c wait) q c)
-  heard_acts = quiet_acts s q c (Heard s (Take q c wait) q c) (λ y i. (i.takes.goes.doing, none_due y i.takes)) (λ y k d i j. heard_like s (Take q c wait) q c y (after_act s y (Noticed k d)) j (noticed_pull s y k d q c) i)
+  heard_acts = quiet_acts s q c (Heard s (Take q c wait) q c) (λ y i. (i.takes.goes.doing, none_due y i.takes)) (λ y k d number kind i j. heard_like s (Take q c wait) q c y (after_act s y (Noticed k d number kind)) j (noticed_pull s y k d number kind q c) i)
 
   -- what is served is the load of put that is owed, or leaves it so
   takes_put : (st : State) (a : Answer) → Can s st (Pull q c ReadCounters) → Takes s (Take q c wait) q c st → TakesOn q c st (Pull q c ReadCounters) ⊎ Takes s (Take q c wait) q c (after_answer st (Pull q c ReadCounters) a)
@@ -225,6 +225,6 @@ module _ (s : Setup) (q c : ℕ) (wait : Bool) where
   takes_made n st ts fit now going long f =
       let u = undecided st.script.doing st.script.decided (due_to st (current s st)) going.doing going.undue in
       let x = pull_at q c st in
-      let none : take_due x ≡ None = untold (take_due x) (sym (ap (λ (o : Option Command). due_to st o) now) ∙ u.1) in
+      let none : take_due x ≡ None = untold (take_due x) (sym (ap (λ (o : Option ChannelCommand). due_to st o) now) ∙ u.1) in
       let whole = (fit q c).whole in
       takes_walk n st ts (linked s st q c fit going.warm) long f (record { goes = record { doing = going.doing; undecided = u.0; now = now; warm = going.warm }; unfound = record { due = none; taken = omega (arith, whole) } })

@@ -1,6 +1,10 @@
 -- Diligent turns do what is owed within a window, whatever the memory answers.
-use Rattle.std.proofs.Common.{◌≡◌, ℕ, ◌+◌, ◌≤◌, List, [], ◌∷◌, ◌++◌, length, subst, arith, inl}
+use Rattle.std.proofs.Common.{◌≡◌, ℕ, ◌+◌, ◌≤◌, List, [], ◌∷◌, ◌++◌, length, subst, ◌∙◌, arith, inl}
 use Rattle.std.proofs.lemmas.Bool.{or_left}
+use Rattle.std.proofs.lemmas.Bool.Decides.{nat_tests}
+use Rattle.xp_base.specs.declared.layout.TheConstants.{WINDOW_TURNS}
+use Rattle.xp_base.specs.Windows.{window_of}
+use Rattle.xp_script.specs.declared.limits.TheConstants.{BUILT_PARTS}
 use Rattle.xp_base.specs.History.{Turn}
 use Rattle.xp_rules.specs.declared.setup.Setup.{Setup}
 use Rattle.xp_rules.specs.Setup.{IsLawfulSetup}
@@ -41,9 +45,13 @@ owed s n st t ts long l x =
       copies = λ q c owes free. copies_made s q c n st us fit owes long (fine s q n st us l x free);
     }
 
-window_owed : (s : Setup) (n : ℕ) (st : State) (window : List Turn) → length window ≡ 1024 → IsLawfulSetup s → Turns s n st window → Owed s st window
-window_owed s n st [] e l x = absurd (omega (arith, e))
-window_owed s n st (t ∷ ts) e l x = owed s n st t ts (omega (arith, e)) l x
+-- the window doesn't grow with the few partitions that the rules can run
+few_window : (count : ℕ) → count ≤ BUILT_PARTS → window_of count ≡ WINDOW_TURNS
+few_window count h = grind (arith, nat_tests)
+
+window_owed : (s : Setup) (n : ℕ) (st : State) (window : List Turn) → length window ≡ window_of s.count → IsLawfulSetup s → Turns s n st window → Owed s st window
+window_owed s n st [] e l x = let f = e ∙ few_window s.count l.count in absurd (omega (arith, f))
+window_owed s n st (t ∷ ts) e l x = let f = e ∙ few_window s.count l.count in owed s n st t ts (omega (arith, f)) l x
 
 -- the turns of a window among others
 runs_before : (s : Setup) (st : State) (xs ys : List Turn) → RunsFrom s st (xs ++ ys) → RunsFrom s st xs

@@ -1,4 +1,5 @@
--- Turns that aren't spent in vain: a command is begun where one can be, the planned step is made, and an answer that is due is given.
+-- Turns that aren't spent in vain: a command is begun where one can be, the planned step is made,
+-- and an answer that is due is given.
 use Rattle.std.specs.Prelude.{◌≡◌, ℕ, ◌+◌, ◌<◌, true, false, List, [], ◌∷◌, length, Option, Some, None, IsSome}
 use Rattle.xp_base.specs.History.{Marked, Turn}
 use Rattle.xp_rules.specs.declared.rule.Rule.{Rule}
@@ -23,9 +24,11 @@ CanBegin s st = (st.script.doing ≡ false) × (st.script.begun < length s.scrip
 pub record IsDiligent (s : Setup) (number : ℕ) (st : State) (t : Turn) : Type 0 where
   pub begins : CanBegin s st → begins t.before ≡ true
   pub plans : rule_made s t.made ≡ plan s number (after_acts s st t.before)
-  pub answers : IsSome (due s (after_step s (after_acts s st t.before) t.made)) → answers t.after ≡ true
+  pub answers :
+      IsSome (due s (after_step s (after_acts s st t.before) t.made)) → answers t.after ≡ true
 
 -- each of some turns is so, from the number-th on, in the state that the turns before it give
 abbrev pub AreDiligent : Setup → ℕ → State → List Turn → Type 0
 AreDiligent s number st [] = Unit {0}
-AreDiligent s number st (t ∷ ts) = IsDiligent s number st t × AreDiligent s (number + 1) (after_turn s st t) ts
+AreDiligent s number st (t ∷ ts) =
+    IsDiligent s number st t × AreDiligent s (number + 1) (after_turn s st t) ts

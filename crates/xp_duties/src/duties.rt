@@ -8,8 +8,9 @@ ghost use Rattle.xp_rules.specs.Runs.{Runs};
 ghost use Rattle.xp_rules.specs.Windows.{Windows};
 ghost use Rattle.xp_duties.specs.Diligent.{AreDiligent};
 
-/// Whatever the memory answers: where each turn is permitted, and begins, steps and answers as planned, nothing that is due waits
-/// longer than a window of 1,024 turns.
+/// Whatever the memory answers: where each turn is permitted, and begins, steps and answers as
+/// planned, nothing that is due waits longer than a window.
 pub fn duties_done()
-    ensures { (s : Setup) → IsLawfulSetup s → (ts : List Turn) → Runs s ts → AreDiligent s 0 (start s) ts → Windows s ts }
+    ensures { (s : Setup) → IsLawfulSetup s → (ts : List Turn)
+        → Runs s ts → AreDiligent s 0 (start s) ts → Windows s ts }
 {}

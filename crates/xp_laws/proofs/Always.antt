@@ -20,8 +20,8 @@ use Rattle.xp_base.specs.declared.answer.TakeAnswer.{TakeAnswer}
 use Rattle.xp_base.specs.declared.answer.ReleaseAnswer.{ReleaseAnswer}
 use Rattle.xp_base.specs.declared.link.LinkState.{LinkState}
 use Rattle.xp_base.specs.declared.link.LinkState.TheVariants.{Idle, Opening, Connected, Closing}
-use Rattle.xp_rules.specs.declared.commands.Command.{Command}
-use Rattle.xp_rules.specs.declared.commands.Command.TheVariants.{Send, Take, Release, Drain}
+use Rattle.xp_rules.specs.declared.commands.ChannelCommand.{ChannelCommand}
+use Rattle.xp_rules.specs.declared.commands.ChannelCommand.TheVariants.{Send, Take, Release, Drain}
 use Rattle.xp_rules.specs.Sending.{send_refusal, link_refusal}
 use Rattle.xp_rules.specs.Pulling.{take_refusal}
 use Rattle.xp_rules.specs.Releasing.{Releasing, release_refusal, message_released}
@@ -109,20 +109,20 @@ drain_accepted Opening = refl
 drain_accepted Connected = refl
 drain_accepted (Closing reason) = refl
 
-decided_accepted : (e : End) (x : Command) → is_accepted (decided_for e x) ≡ false
+decided_accepted : (e : End) (x : ChannelCommand) → is_accepted (decided_for e x) ≡ false
 decided_accepted e (Send q c payload wait notify) = cond_both e.warm _ _ (λ y. is_accepted y ≡ false) (λ d. sent_accepted (send_refusal (link_of e) payload e.send) (λ k. cond_both (ltb e.send.limit (length payload)) _ _ (λ y. y ≡ Some (SendOk k) → ⊥) (λ f g. cc) (λ f g. link_accepted (link_of e) k g))) (λ d. refl)
 decided_accepted e (Take q c wait) = told_accepted (take_refusal (link_of e))
 decided_accepted e (Release q c number) = freed_accepted (release_refusal (link_of e) number e.ack) number e.ack
 decided_accepted e (Drain q c) = drain_accepted (link_of e)
 
-calm_begun : (st : State) (x : Option Command) → must_answer st ≡ false → must_answer (begun_with st x) ≡ false
+calm_begun : (st : State) (x : Option ChannelCommand) → must_answer st ≡ false → must_answer (begun_with st x) ≡ false
 calm_begun st None h = h
 calm_begun st (Some x) h = decided_accepted (end_named st x) x
 
 calm_act : (su : Setup) (st : State) (a : Act) → must_answer st ≡ false → must_answer (after_act su st a) ≡ false
 calm_act su st Begun h = calm_begun st (upcoming su st) h
 calm_act su st Answered h = refl
-calm_act su st (Noticed q c) h = h
+calm_act su st (Noticed q c number kind) h = h
 
 pub calm_acts : (su : Setup) (st : State) (more : List Act) → must_answer st ≡ false → must_answer (after_acts su st more) ≡ false
 calm_acts su st [] h = h

@@ -1,5 +1,5 @@
 -- Nothing that is read is broken: no partition gets such a reason, and no log entry has one.
-use Rattle.std.proofs.Common.{◌≡◌, ℕ, zero, suc, ◌+◌, ◌-◌, ◌%◌, ◌<◌, ◌≤◌, Bool, true, false, ◌&&◌, cond, eqb, ltb, List, [], ◌∷◌, ◌++◌, length, get_or, replicate, refl, ap, sym, ◌∙◌, subst, arith, Option, Some, None, inl, inr, ◌⊎◌, length-append}
+use Rattle.std.proofs.Common.{◌≡◌, ℕ, zero, suc, ◌+◌, ◌-◌, ◌*◌, ◌%◌, ◌<◌, ◌≤◌, Bool, true, false, ◌&&◌, cond, eqb, ltb, List, [], ◌∷◌, ◌++◌, length, get_or, replicate, refl, ap, sym, ◌∙◌, subst, arith, Option, Some, None, inl, inr, ◌⊎◌, length-append}
 use Rattle.std.specs.List.{slice_get}
 use Rattle.std.proofs.lemmas.Bool.{cases_lt, eqb-true, cond_both}
 use Rattle.std.proofs.lemmas.List.{get_or-replicate, get_or_past, length-replicate}
@@ -11,11 +11,13 @@ use Rattle.xp_base.specs.declared.answer.ReleaseAnswer.{ReleaseAnswer}
 use Rattle.xp_base.specs.declared.link.LinkState.{LinkState}
 use Rattle.xp_base.specs.declared.link.LinkState.TheVariants.{Connected, Idle}
 use Rattle.xp_base.specs.History.{Act, Begun, Answered, Noticed}
+use Rattle.xp_base.specs.declared.layout.TheConstants.{LINE_WORDS}
 use Rattle.xp_base.specs.Places.{Counter, Flag}
-use Rattle.xp_rules.specs.declared.commands.Command.{Command}
-use Rattle.xp_rules.specs.declared.commands.Command.TheVariants.{Send, Take, Release, Drain}
-use Rattle.xp_rules.specs.declared.log.LogAnswer.{LogAnswer}
-use Rattle.xp_rules.specs.declared.log.Entry.{Entry as LogEntry}
+use Rattle.xp_rules.specs.declared.commands.ChannelCommand.{ChannelCommand}
+use Rattle.xp_rules.specs.declared.commands.ChannelCommand.TheVariants.{Send, Take, Release, Drain}
+use Rattle.xp_script.specs.declared.limits.TheConstants.{BUILT_PARTS}
+use Rattle.xp_script.specs.declared.log.LogAnswer.{LogAnswer}
+use Rattle.xp_script.specs.declared.log.Entry.{Entry as LogEntry}
 use Rattle.xp_rules.specs.declared.engage.Engagement.{Engagement}
 use Rattle.xp_rules.specs.declared.rule.RingRule.{RingRule}
 use Rattle.xp_rules.specs.declared.rule.RingRule.TheVariants.{ReadGet, WriteEntryWord, AcceptMessage}
@@ -23,8 +25,8 @@ use Rattle.xp_rules.specs.declared.rule.PullRule.TheVariants.{ReadCounters, Read
 use Rattle.xp_rules.specs.declared.rule.Rule.{Rule}
 use Rattle.xp_rules.specs.declared.rule.Rule.TheVariants.{Ring, Pull, Acknowledge, TakeFlags, SetFlag}
 use Rattle.xp_rules.specs.declared.setup.Setup.{Setup}
-use Rattle.xp_rules.specs.declared.scenario.Scenario.{Scenario}
-use Rattle.xp_rules.specs.Scenario.{setup_of, IsLawful}
+use Rattle.xp_script.specs.declared.scenario.Scenario.{Scenario}
+use Rattle.xp_rules.specs.Scenario.{setup_of, CanRun}
 use Rattle.xp_rules.specs.Sending.{Sending, ring_answer, is_bad_get, is_full, send_refusal}
 use Rattle.xp_rules.specs.Pulling.{Pulling, counters_word, counters_fault, entry_fault, take_refusal, first_taken, found, found_by}
 use Rattle.xp_rules.specs.Releasing.{Releasing, release_refusal, message_released}
@@ -52,11 +54,11 @@ counters_fault_none own theirs o i (Some g) v e f h k =
     let P : ℕ → Type 0 = λ x. counters_fault (beside own i) (Some g) i.pull x ≡ None in
     subst P (sym (f g refl)) (rw (put_good own o i k) refl)
 
-entry_fault_none : (o : Out) (i : In) → i.pull.pulled < i.pull.pulled_put → Kept o i → (if_whole : Bool) → eqb (length i.pull.copied + 1) 16 ≡ if_whole → cond if_whole (entry_fault i.pull (i.pull.copied ++ o.entry (i.pull.pulled % i.pull.entries) (length i.pull.copied) ∷ [])) None ≡ None
+entry_fault_none : (o : Out) (i : In) → i.pull.pulled < i.pull.pulled_put → Kept o i → (if_whole : Bool) → eqb (length i.pull.copied + 1) LINE_WORDS ≡ if_whole → cond if_whole (entry_fault i.pull (i.pull.copied ++ o.queue (LINE_WORDS * (i.pull.pulled % i.pull.entries) + length i.pull.copied) ∷ [])) None ≡ None
 entry_fault_none o i l h false e = refl
-entry_fault_none o i l h true e = entry_good o i l h (length-append i.pull.copied (o.entry (i.pull.pulled % i.pull.entries) (length i.pull.copied) ∷ []) ∙ eqb-true (length i.pull.copied + 1) 16 e)
+entry_fault_none o i l h true e = entry_good o i l h (length-append i.pull.copied (o.queue (LINE_WORDS * (i.pull.pulled % i.pull.entries) + length i.pull.copied) ∷ []) ∙ eqb-true (length i.pull.copied + 1) LINE_WORDS e)
 
-module _ (s : Scenario) (law : IsLawful s) (w : Words) (σ : ℕ → Part) (a : ℕ) (low : a < s.count) (good : Good s law w σ) where
+module _ (s : Scenario) (law : CanRun s) (w : Words) (σ : ℕ → Part) (a : ℕ) (low : a < s.count) (good : Good s law w σ) where
   abbrev word_told : Rule → ℕ
   word_told r = told (setup_of s a) (σ a).state r w
 
@@ -75,7 +77,7 @@ module _ (s : Scenario) (law : IsLawful s) (w : Words) (σ : ℕ → Part) (a : 
       counters_fault_none (out_at (w a) (σ a) q c) (in_at (w q) (σ q) a c) (out_at (w q) (σ q) a c) (in_at (w a) (σ a) q c) e.pull.counters (word_told (Pull q c ReadCounters)) first second (sent s law w σ a good q c l.0 l.1) (got s law w σ a good q c l.0 l.1)
   no_fault flags (Pull q c ReadEntry) can =
       let l = warm_link s law a q c (σ a) (good.fixed a low) can.0.warm in
-      entry_fault_none (out_at (w q) (σ q) a c) (in_at (w a) (σ a) q c) can.1.0 (got s law w σ a good q c l.0 l.1) (eqb (length (end_of (σ a).state q c).pull.copied + 1) 16) refl
+      entry_fault_none (out_at (w q) (σ q) a c) (in_at (w a) (σ a) q c) can.1.0 (got s law w σ a good q c l.0 l.1) (eqb (length (end_of (σ a).state q c).pull.copied + 1) LINE_WORDS) refl
   no_fault flags (Acknowledge q c) can = refl
   no_fault flags (TakeFlags q) can = no_bad_flags (w a (Flag q)) (flags a q)
   no_fault flags (SetFlag q c) can = refl
@@ -103,11 +105,11 @@ partners_failed k r h q = partners_given k.state.engages (partner_of r) (copy_er
 
 pub partners_start : (su : Setup) (q : ℕ) → is_broken (engage_of (start su) q).reason ≡ false
 unfolding no_engagements
-partners_start su q = by (cases_lt q 8)
+partners_start su q = by (cases_lt q BUILT_PARTS)
   where
-    by : (q < 8) ⊎ (8 ≤ q) → is_broken (get_or (replicate 8 no_engagement) q no_engagement).reason ≡ false
-    by (inl l) = ap (λ (x : Engagement). is_broken x.reason) (get_or-replicate 8 q no_engagement no_engagement l)
-    by (inr l) = ap (λ (x : Engagement). is_broken x.reason) (get_or_past (replicate 8 no_engagement) q no_engagement (omega (arith, length-replicate {A = Engagement} 8 no_engagement, l)))
+    by : (q < BUILT_PARTS) ⊎ (BUILT_PARTS ≤ q) → is_broken (get_or (replicate BUILT_PARTS no_engagement) q no_engagement).reason ≡ false
+    by (inl l) = ap (λ (x : Engagement). is_broken x.reason) (get_or-replicate BUILT_PARTS q no_engagement no_engagement l)
+    by (inr l) = ap (λ (x : Engagement). is_broken x.reason) (get_or_past (replicate BUILT_PARTS no_engagement) q no_engagement (omega (arith, length-replicate {A = Engagement} BUILT_PARTS no_engagement, l)))
 
 -- the log: no entry has a reason at all
 pub record Unblamed (k : Part) : Type 0 where
@@ -133,7 +135,7 @@ blame_release_told : (o : Option ReleaseAnswer) (number : ℕ) (x : Releasing) �
 blame_release_told None number x = cond_both (eqb x.front (message_released number x).front) _ _ (λ y. reason_in y ≡ None) (λ d. refl) (λ d. refl)
 blame_release_told (Some a) number x = refl
 
-blame_decided : (e : End) (x : Command) → reason_in (decided_for e x) ≡ None
+blame_decided : (e : End) (x : ChannelCommand) → reason_in (decided_for e x) ≡ None
 blame_decided e (Send q c payload wait notify) =
     cond_both e.warm _ _ (λ y. reason_in y ≡ None)
     (λ d.
@@ -159,7 +161,7 @@ blame_found_by (Some wait) x = blame_found x.taken x.empty x.cache
 blame_drained : (e : End) → reason_in (drained e) ≡ None
 blame_drained e = cond_both (e.warm && eqb e.send.known e.send.put) _ _ (λ y. reason_in y ≡ None) (λ d. refl) (λ d. refl)
 
-blame_due : (st : State) (x : Option Command) → reason_in (due_to st x) ≡ None
+blame_due : (st : State) (x : Option ChannelCommand) → reason_in (due_to st x) ≡ None
 blame_due st None = refl
 blame_due st (Some (Send q c payload wait notify)) = refl
 blame_due st (Some (Take q c wait)) = blame_found_by (end_of st q c).pull.take (end_of st q c).pull
@@ -170,11 +172,11 @@ blame_or : (d later : Option LogAnswer) → reason_in d ≡ None → reason_in l
 blame_or None later e f = f
 blame_or (Some a) later e f = e
 
-blame_begun : (st : State) (x : Option Command) → reason_in st.script.decided ≡ None → reason_in (begun_with st x).script.decided ≡ None
+blame_begun : (st : State) (x : Option ChannelCommand) → reason_in st.script.decided ≡ None → reason_in (begun_with st x).script.decided ≡ None
 blame_begun st None h = h
 blame_begun st (Some x) h = blame_decided (end_named st x) x
 
-entry_begun : (n : ℕ) (x : Option Command) (i : ℕ) (y : LogEntry) → slice_get (begun_entry n x) i ≡ Some y → reason_in y.answer ≡ None
+entry_begun : (n : ℕ) (x : Option ChannelCommand) (i : ℕ) (y : LogEntry) → slice_get (begun_entry n x) i ≡ Some y → reason_in y.answer ≡ None
 entry_begun n None i y e = absurd (cc)
 entry_begun n (Some x) zero y e = let d : record { boot = 1; number = n; verb = verb_of x; answer = None } ≡ y = cc in ap (λ (z : LogEntry). reason_in z.answer) (sym d)
 entry_begun n (Some x) (suc i) y e = absurd (cc)
@@ -199,7 +201,7 @@ unblamed_act su k Answered h = record {
   entries = entries_answered k.logged.entries (due su k.state) (cond_both k.state.script.doing _ _ (λ y. reason_in y ≡ None) (λ d. blame_or k.state.script.decided (due_to k.state (current su k.state)) h.decided (blame_due k.state (current su k.state))) (λ d. refl)) h.entries;
   decided = refl;
 }
-unblamed_act su k (Noticed q c) h = record { entries = h.entries; decided = h.decided }
+unblamed_act su k (Noticed q c number kind) h = record { entries = h.entries; decided = h.decided }
 
 pub unblamed_rule : (k : Part) (r : Rule) (v : ℕ) → Unblamed k → Unblamed (part_ruled k r (Word v))
 unblamed_rule k (Ring q c m) v h = record { entries = h.entries; decided = blame_send (ring_answer (end_of k.state q c).send m v) k.state.script (blame_ring (end_of k.state q c).send m v) h.decided }

@@ -5,11 +5,11 @@ use Rattle.std.specs.List.{slice_get}
 use Rattle.std.proofs.lemmas.List.{append-nil}
 use Rattle.xp_base.specs.declared.step.Answer.{Answer}
 use Rattle.xp_base.specs.History.{Act, Begun, Answered, Noticed}
-use Rattle.xp_rules.specs.declared.commands.Command.{Command}
-use Rattle.xp_rules.specs.declared.commands.Command.TheVariants.{Send, Take, Release, Drain}
-use Rattle.xp_rules.specs.declared.log.Verb.TheVariants.{Send as SendVerb}
-use Rattle.xp_rules.specs.declared.log.LogAnswer.{LogAnswer}
-use Rattle.xp_rules.specs.declared.log.Entry.{Entry}
+use Rattle.xp_rules.specs.declared.commands.ChannelCommand.{ChannelCommand}
+use Rattle.xp_rules.specs.declared.commands.ChannelCommand.TheVariants.{Send, Take, Release, Drain}
+use Rattle.xp_script.specs.declared.log.Verb.TheVariants.{Send as SendVerb}
+use Rattle.xp_script.specs.declared.log.LogAnswer.{LogAnswer}
+use Rattle.xp_script.specs.declared.log.Entry.{Entry}
 use Rattle.xp_rules.specs.declared.rule.Rule.{Rule}
 use Rattle.xp_rules.specs.declared.setup.Setup.{Setup}
 use Rattle.xp_rules.specs.State.{State, end_of}
@@ -28,8 +28,8 @@ Matched es xs = (n : ℕ) (x : Entry) → slice_get es n ≡ Some x → x.verb �
 pub record LogOf (su : Setup) (st : State) (es : List Entry) (xs : List Sent) : Type 0 where
   pub count : length es ≡ st.script.begun
   pub numbers : (n : ℕ) (x : Entry) → slice_get es n ≡ Some x → x.number ≡ n + 1
-  pub now : st.script.doing ≡ true → (c : Command) × (current su st ≡ Some c)
-  pub last : st.script.doing ≡ true → (x : Command) (y : Entry) → current su st ≡ Some x → slice_get es (st.script.begun - 1) ≡ Some y → y.verb ≡ verb_of x
+  pub now : st.script.doing ≡ true → (c : ChannelCommand) × (current su st ≡ Some c)
+  pub last : st.script.doing ≡ true → (x : ChannelCommand) (y : Entry) → current su st ≡ Some x → slice_get es (st.script.begun - 1) ≡ Some y → y.verb ≡ verb_of x
   pub matched : Matched es xs
 
 abbrev pub Log : Setup → Part → Type 0
@@ -74,25 +74,25 @@ log_rule su k r b h = record {
 }
 
 -- a command is begun
-begun_later : (st : State) (c : Option Command) (xs : List Sent) (x : Entry) → IsEntryOf xs x → IsEntryOf (begun_send st c xs) x
+begun_later : (st : State) (c : Option ChannelCommand) (xs : List Sent) (x : Entry) → IsEntryOf xs x → IsEntryOf (begun_send st c xs) x
 begun_later st None xs x h = h
 begun_later st (Some (Send q c payload wait notify)) xs x h = record { send = h.send; place = suc h.place; listed = h.listed; number = h.number; answer = h.answer }
 begun_later st (Some (Take q c wait)) xs x h = h
 begun_later st (Some (Release q c number)) xs x h = h
 begun_later st (Some (Drain q c)) xs x h = h
 
-new_entry : (n : ℕ) (c : Command) (i : ℕ) (x : Entry) → slice_get (begun_entry n (Some c)) i ≡ Some x → (i ≡ 0) × (record { boot = 1; number = n; verb = verb_of c; answer = None } ≡ x)
+new_entry : (n : ℕ) (c : ChannelCommand) (i : ℕ) (x : Entry) → slice_get (begun_entry n (Some c)) i ≡ Some x → (i ≡ 0) × (record { boot = 1; number = n; verb = verb_of c; answer = None } ≡ x)
 new_entry n c zero x e = (refl, cc)
 new_entry n c (suc i) x e = absurd (cc)
 
-new_matched : (st : State) (c : Command) (xs : List Sent) (x : Entry) → record { boot = 1; number = st.script.begun + 1; verb = verb_of c; answer = None } ≡ x → x.verb ≡ SendVerb → IsEntryOf (begun_send st (Some c) xs) x
+new_matched : (st : State) (c : ChannelCommand) (xs : List Sent) (x : Entry) → record { boot = 1; number = st.script.begun + 1; verb = verb_of c; answer = None } ≡ x → x.verb ≡ SendVerb → IsEntryOf (begun_send st (Some c) xs) x
 new_matched st (Send q c payload wait notify) xs x e v = record { send = record { number = st.script.begun + 1; partner = q; channel = c; payload = payload; wait = wait; beginning = end_of st q c; steps = []; answer = None }; place = 0; listed = refl; number = ap (λ (y : Entry). y.number) e; answer = ap (λ (y : Entry). y.answer) e }
 new_matched st (Take q c wait) xs x e v = let f = ap (λ (y : Entry). y.verb) e ∙ v in absurd (cc)
 new_matched st (Release q c number) xs x e v = let f = ap (λ (y : Entry). y.verb) e ∙ v in absurd (cc)
 new_matched st (Drain q c) xs x e v = let f = ap (λ (y : Entry). y.verb) e ∙ v in absurd (cc)
 
 module _ (su : Setup) (st : State) (es : List Entry) (xs : List Sent) (h : LogOf su st es xs) where
-  begun_one : (c : Command) → upcoming su st ≡ Some c → LogOf su (begun_with st (Some c)) (es ++ begun_entry (st.script.begun + 1) (Some c)) (begun_send st (Some c) xs)
+  begun_one : (c : ChannelCommand) → upcoming su st ≡ Some c → LogOf su (begun_with st (Some c)) (es ++ begun_entry (st.script.begun + 1) (Some c)) (begun_send st (Some c) xs)
   begun_one c u = record {
     count = length-append es (begun_entry (st.script.begun + 1) (Some c)) ∙ ap (λ (n : ℕ). n + 1) h.count;
     now = λ d. let back : st.script.begun + 1 - 1 ≡ st.script.begun = omega arith in (c, ap (slice_get su.script) back ∙ u);
@@ -141,7 +141,7 @@ length-answered (y ∷ []) a = refl
 length-answered (y ∷ z ∷ more) a = ap suc (length-answered (z ∷ more) a)
 
 -- the sends after an answer: an earlier one is as it was
-earlier_matched : (c : Option Command) (a : Option LogAnswer) (y : Sent) (ys : List Sent) (x : Entry) → (x.number ≡ y.number → ⊥) → IsEntryOf (y ∷ ys) x → IsEntryOf (answered_send c a (y ∷ ys)) x
+earlier_matched : (c : Option ChannelCommand) (a : Option LogAnswer) (y : Sent) (ys : List Sent) (x : Entry) → (x.number ≡ y.number → ⊥) → IsEntryOf (y ∷ ys) x → IsEntryOf (answered_send c a (y ∷ ys)) x
 earlier_matched None a y ys x n h = h
 earlier_matched (Some (Take q c wait)) a y ys x n h = h
 earlier_matched (Some (Release q c number)) a y ys x n h = h
@@ -152,14 +152,14 @@ earlier_matched (Some (Send q c payload wait notify)) a y ys x n h = by h.place 
     by zero e = let d : y ≡ h.send = cc in absurd (n (sym h.number ∙ sym (ap (λ (w : Sent). w.number) d)))
     by (suc i) e = record { send = h.send; place = suc i; listed = e; number = h.number; answer = h.answer }
 
-answered_matched : (su : Setup) (k : Part) (some : IsSome (due su k.state)) (sends : Sends su k) (h : Log su k) (n : ℕ) (x : Entry) → x.verb ≡ SendVerb → (a : AtLast k.logged.entries (due su k.state) n x) → (o : Option Command) → current su k.state ≡ o → IsEntryOf (answered_send o (due su k.state) k.sends) x
+answered_matched : (su : Setup) (k : Part) (some : IsSome (due su k.state)) (sends : Sends su k) (h : Log su k) (n : ℕ) (x : Entry) → x.verb ≡ SendVerb → (a : AtLast k.logged.entries (due su k.state) n x) → (o : Option ChannelCommand) → current su k.state ≡ o → IsEntryOf (answered_send o (due su k.state) k.sends) x
 answered_matched su k some sends h n x v a o e = by o e a.is
   where
     doing : k.state.script.doing ≡ true
     doing = is_doing k.state.script.doing (decided_or k.state.script.decided (due_to k.state (current su k.state))) some
 
     -- the last entry is that of the command in progress
-    verb_last : (c : Command) → current su k.state ≡ Some c → n + 1 ≡ length k.logged.entries → a.entry.verb ≡ verb_of c
+    verb_last : (c : ChannelCommand) → current su k.state ≡ Some c → n + 1 ≡ length k.logged.entries → a.entry.verb ≡ verb_of c
     verb_last c f i =
         let place : k.state.script.begun - 1 ≡ n = omega (arith, i, h.count) in
         h.last doing c a.entry f (ap (slice_get k.logged.entries) place ∙ a.listed)
@@ -170,7 +170,7 @@ answered_matched su k some sends h n x v a o e = by o e a.is
     old : x ≡ a.entry → IsEntryOf k.sends x
     old i = subst (λ (z : Entry). IsEntryOf k.sends z) (sym i) (h.matched n a.entry a.listed (sym (ap (λ (z : Entry). z.verb) i) ∙ v))
 
-    by : (o : Option Command) → current su k.state ≡ o → ((n + 1 < length k.logged.entries) × (x ≡ a.entry)) ⊎ ((n + 1 ≡ length k.logged.entries) × (x ≡ record a.entry { answer = due su k.state })) → IsEntryOf (answered_send o (due su k.state) k.sends) x
+    by : (o : Option ChannelCommand) → current su k.state ≡ o → ((n + 1 < length k.logged.entries) × (x ≡ a.entry)) ⊎ ((n + 1 ≡ length k.logged.entries) × (x ≡ record a.entry { answer = due su k.state })) → IsEntryOf (answered_send o (due su k.state) k.sends) x
     by None f (inl i) = old i.1
     by None f (inr i) = let c = h.now doing in let never : None ≡ Some c.0 = sym f ∙ c.1 in absurd (cc)
     by (Some (Take q c wait)) f (inl i) = old i.1
@@ -207,11 +207,11 @@ log_answered su k some sends h = record {
     matched : (n : ℕ) (x : Entry) → x.verb ≡ SendVerb → AtLast k.logged.entries (due su k.state) n x → IsEntryOf (answered_send (current su k.state) (due su k.state) k.sends) x
     matched n x v a = answered_matched su k some sends h n x v a (current su k.state) refl
 
-log_begun : (su : Setup) (k : Part) (o : Option Command) → upcoming su k.state ≡ o → Log su k → LogOf su (begun_with k.state o) (k.logged.entries ++ begun_entry (k.state.script.begun + 1) o) (begun_send k.state o k.sends)
+log_begun : (su : Setup) (k : Part) (o : Option ChannelCommand) → upcoming su k.state ≡ o → Log su k → LogOf su (begun_with k.state o) (k.logged.entries ++ begun_entry (k.state.script.begun + 1) o) (begun_send k.state o k.sends)
 log_begun su k None u h = subst (λ (es : List Entry). LogOf su k.state es k.sends) (sym (append-nil k.logged.entries)) h
 log_begun su k (Some c) u h = begun_one su k.state k.logged.entries k.sends h c u
 
 pub log_act : (su : Setup) (k : Part) (x : Act) → MayAct su k.state x → Sends su k → Log su k → Log su (part_act su k x)
 log_act su k Begun may sends h = log_begun su k (upcoming su k.state) refl h
 log_act su k Answered may sends h = log_answered su k may sends h
-log_act su k (Noticed q c) may sends h = record { count = h.count; numbers = h.numbers; now = h.now; last = h.last; matched = h.matched }
+log_act su k (Noticed q c number kind) may sends h = record { count = h.count; numbers = h.numbers; now = h.now; last = h.last; matched = h.matched }

@@ -4,6 +4,7 @@ use Rattle.std.specs.Int.Bits.{and_step, or_step, and_zero_r}
 use Rattle.std.proofs.Math.Arith.{bin_ind}
 use Rattle.std.proofs.lemmas.Bool.{eq-eqb}
 use Rattle.std.proofs.lemmas.Nat.{and_shr, or_shr}
+use Rattle.xp_base.specs.declared.layout.TheConstants.{CHANNELS}
 use Rattle.xp_base.specs.Places.{Flag}
 use Rattle.xp_rules.specs.Flags.{message_flag, message_flags, flags_fault}
 use Rattle.xp_laws.proofs.Words.{Words}
@@ -18,7 +19,7 @@ Requested w = (p q : ℕ) → HasRequests (w p (Flag q))
 pub no_requests : HasRequests 0
 no_requests = refl
 
-pub request_alone : (c : ℕ) → c < 4 → HasRequests (message_flag c)
+pub request_alone : (c : ℕ) → c < CHANNELS → HasRequests (message_flag c)
 request_alone zero l = refl
 request_alone (suc zero) l = refl
 request_alone (suc (suc zero)) l = refl

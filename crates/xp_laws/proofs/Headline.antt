@@ -1,5 +1,5 @@
 -- What is promised of a history, from what holds after it and before each of its steps.
-use Rattle.std.proofs.Common.{◌≡◌, ℕ, zero, suc, ◌%◌, ◌<◌, true, ◌&&◌, eqb, List, [], ◌∷◌, ◌++◌, map, refl, ap, sym, ◌∙◌, subst, arith, Option, Some, None}
+use Rattle.std.proofs.Common.{◌≡◌, ℕ, zero, suc, ◌+◌, ◌*◌, ◌%◌, ◌<◌, true, ◌&&◌, eqb, List, [], ◌∷◌, ◌++◌, map, refl, ap, sym, ◌∙◌, subst, arith, Option, Some, None}
 use Rattle.std.specs.List.{slice_get, Contains}
 use Rattle.std.proofs.lemmas.Bool.{eq-eqb, eqb-true, and_parts, and_from, cond_both}
 use Rattle.std.proofs.lemmas.Option.{get_or_from_slice_get, slice_get-get_or}
@@ -9,6 +9,7 @@ use Rattle.std.proofs.lemmas.List.Elements.{All-contains}
 use Rattle.xp_base.specs.declared.session.Session.{Session}
 use Rattle.xp_base.specs.declared.layout.Region.TheVariants.{Area}
 use Rattle.xp_base.specs.declared.step.Op.{Op}
+use Rattle.xp_base.specs.declared.layout.TheConstants.{ENGAGED, LINE_WORDS}
 use Rattle.xp_base.specs.Places.{Open, Entry as EntryWord, index_of, place_of, place_of-index_of, region_of}
 use Rattle.xp_base.specs.declared.step.OpKind.TheVariants.{Store}
 use Rattle.xp_base.specs.Memory.{Memory}
@@ -16,11 +17,13 @@ use Rattle.xp_base.specs.History.{Turn, Event, Turned, Marked}
 use Rattle.xp_rules.specs.declared.rule.RingRule.TheVariants.{ReadGet, WriteEntryWord, AcceptMessage}
 use Rattle.xp_rules.specs.declared.rule.Rule.{Rule}
 use Rattle.xp_rules.specs.declared.rule.Rule.TheVariants.{Ring, Pull, Acknowledge, TakeFlags, SetFlag}
-use Rattle.xp_rules.specs.declared.setup.Link.{Link}
-use Rattle.xp_rules.specs.declared.scenario.Scenario.{Scenario}
+use Rattle.xp_script.specs.declared.part.Link.{Link}
+use Rattle.xp_script.specs.declared.scenario.Scenario.{Scenario}
 use Rattle.xp_rules.specs.Records.{Recorded, opened_record}
 use Rattle.xp_rules.specs.State.{State, end_of}
-use Rattle.xp_rules.specs.Scenario.{setup_of, links_of, opening, IsLawful}
+use Rattle.xp_script.specs.Parts.{links_of}
+use Rattle.xp_script.specs.Opening.{opening}
+use Rattle.xp_rules.specs.Scenario.{setup_of, CanRun}
 use Rattle.xp_rules.specs.declared.rule.PullRule.TheVariants.{ReadCounters, ReadEntry}
 use Rattle.xp_rules.specs.Rules.{Can, owner, place, op_of}
 use Rattle.xp_rules.proofs.Setups.{lawful_setup}
@@ -75,7 +78,7 @@ name_of p q c r x l e f g h =
     let sessions = and_from (is_session r.own x.theirs) (is_session r.theirs x.own) (is_session_same r.own x.theirs (ap (λ (y : Recorded). y.own) e ∙ sym (ap (λ (y : Recorded). y.theirs) f))) (is_session_same r.theirs x.own (ap (λ (y : Recorded). y.theirs) e ∙ sym (ap (λ (y : Recorded). y.own) f))) in
     and_from _ _ partners (and_from _ _ places sessions)
 
-module _ (s : Scenario) (law : IsLawful s) (h : List Event) (w : Words) (sound : Sound s law w (parts_of s law h)) where
+module _ (s : Scenario) (law : CanRun s) (h : List Event) (w : Words) (sound : Sound s law w (parts_of s law h)) where
   abbrev part_of : ℕ → Part
   part_of = parts_of s law h
 
@@ -198,7 +201,7 @@ module _ (s : Scenario) (law : IsLawful s) (h : List Event) (w : Words) (sound :
       record {
         own = recorded (records_of s h p) (number_at p q c);
         recorded = record_listed p q c k.0 low k.1;
-        place = at ∙ ap (λ (n : ℕ). EntryWord q c (n % (end_of (part_of p).state q c).send.entries) f) way.chain.put_count;
+        place = at ∙ ap (λ (n : ℕ). EntryWord q c (LINE_WORDS * (n % (end_of (part_of p).state q c).send.entries) + f)) way.chain.put_count;
         room = omega (arith, ap acked_of o, way.chain, can.1.2);
       }
 
@@ -217,7 +220,7 @@ module _ (s : Scenario) (law : IsLawful s) (h : List Event) (w : Words) (sound :
 abbrev StepOf : Scenario → List Event → ℕ → Marked → Type 0
 StepOf s h p x = MayStep (setup_of s p) (known s h p) x
 
-module _ (s : Scenario) (law : IsLawful s) (h : List Event) (m : Memory) (r : ReachedWords s h m) where
+module _ (s : Scenario) (law : CanRun s) (h : List Event) (m : Memory) (r : ReachedWords s h m) where
   here_before : (before after : List Event) (p : ℕ) (t : Turn) → h ≡ before ++ Turned p t ∷ after → Before s law before p t
   here_before before after p t e = before_step s law before after p t m (subst (λ (es : List Event). ReachedWords s es m) e r)
 
@@ -239,7 +242,7 @@ module _ (s : Scenario) (law : IsLawful s) (h : List Event) (m : Memory) (r : Re
           let b = here_before before after p t e in
           let z = can_of before after p t x (Ring q c (WriteEntryWord f)) e g d in
           let st = known s (until before p t) p in
-          let at : place_of x.step.op.index ≡ place (setup_of s p) st (Ring q c (WriteEntryWord f)) = ap (λ (o : Op). place_of o.index) z.0 ∙ place_of-index_of (place (setup_of s p) st (Ring q c (WriteEntryWord f))) (within (setup_of s p) st (Ring q c (WriteEntryWord f)) (lawful_setup s p law b.low) z.1) in
+          let at : place_of x.step.op.index ≡ place (setup_of s p) st (Ring q c (WriteEntryWord f)) = ap (λ (o : Op). place_of o.index) z.0 ∙ place_of-index_of (place (setup_of s p) st (Ring q c (WriteEntryWord f))) (within (setup_of s p) st (Ring q c (WriteEntryWord f)) (lawful_setup s p law.lawful law.built b.low) z.1) in
           has_room s law (until before p t) b.words b.sound p q c f x.step.op.index b.low z.1 at
 
       acknowledges : (before after : List Event) (p : ℕ) (t : Turn) (x : Marked) (q c get : ℕ) → h ≡ before ++ Turned p t ∷ after → t.made ≡ Some x → rule_of (setup_of s p) x.step.op x.mark ≡ Some (Acknowledge q c) → x.step.op.kind ≡ Store get → IsReleased s (until before p t) p q c get
@@ -251,14 +254,14 @@ module _ (s : Scenario) (law : IsLawful s) (h : List Event) (m : Memory) (r : Re
           subst (IsReleased s (until before p t) p q c) same (is_released s law (until before p t) b.words b.sound p q c b.low z.1)
 
   -- the engagement words are those of the opening
-  engaged_is : (es : List Event) (q : ℕ) → ReachedWords s es (memory_by (opening s) es) → q < s.count → engaged_at s es q ≡ opening_words s q (Open 12)
-  engaged_is es q k l = let f = reached s law es (memory_by (opening s) es) k in f.1.words q (Open 12) l (omega arith) ∙ f.2.engaged q
+  engaged_is : (es : List Event) (q : ℕ) → ReachedWords s es (memory_by (opening s) es) → q < s.count → engaged_at s es q ≡ opening_words s q (Open ENGAGED)
+  engaged_is es q k l = let f = reached s law es (memory_by (opening s) es) k in f.1.words q (Open ENGAGED) l (omega arith) ∙ f.2.engaged q
 
   link_bit : (before : List Event) (p : ℕ) (t : Turn) (b : Before s law before p t) (q c : ℕ) → (end_of (known s (until before p t) p) q c).warm ≡ true → bit_at (engaged_at s before q) p ≡ 1
   link_bit before p t b q c warm =
       let k = warm_link s law p q c (parts_of s law (until before p t) p) (b.sound.good.fixed p b.low) warm in
       let i = line s p q c k.0 law k.1 in
-      ap (λ (x : ℕ). bit_at x p) (b.agrees.words q (Open 12) i.second (omega arith) ∙ b.sound.engaged q) ∙ engaged_bit s q p c (mirror p k.0) i.second (mirrored s p q c k.0 law k.1)
+      ap (λ (x : ℕ). bit_at x p) (b.agrees.words q (Open ENGAGED) i.second (omega arith) ∙ b.sound.engaged q) ∙ engaged_bit s q p c (mirror p k.0) i.second (mirrored s p q c k.0 law k.1)
 
   -- a step on a partner's word is on a word of the own area
   touches : (p : ℕ) (st : State) (rule : Rule) → (owner (setup_of s p) rule ≡ p → ⊥) → region_of (place (setup_of s p) st rule) ≡ Some (Area p)
@@ -290,7 +293,7 @@ module _ (s : Scenario) (law : IsLawful s) (h : List Event) (m : Memory) (r : Re
           let k = step_of before after p t x e f in
           let st = known s (until before p t) p in
           let d : owner (setup_of s p) k.rule ≡ p → ⊥ = λ y. n (ap (λ (o : Op). o.owner) k.op ∙ y) in
-          let region : region_of (place_of (index_of (place (setup_of s p) st k.rule))) ≡ Some (Area p) = ap region_of (place_of-index_of (place (setup_of s p) st k.rule) (within (setup_of s p) st k.rule (lawful_setup s p law b.low) k.can)) ∙ touches p st k.rule d in
+          let region : region_of (place_of (index_of (place (setup_of s p) st k.rule))) ≡ Some (Area p) = ap region_of (place_of-index_of (place (setup_of s p) st k.rule) (within (setup_of s p) st k.rule (lawful_setup s p law.lawful law.built b.low) k.can)) ∙ touches p st k.rule d in
           let open_to : IsOpenTo p (engaged_at s before (owner (setup_of s p) k.rule)) (Some (Area p)) = (refl, bit_of before p t b k.rule k.can d) in
           let P : Op → Type 0 = λ o. IsOpenTo p (engaged_at s before o.owner) (region_of (place_of o.index)) in
           subst P (sym k.op) (subst (IsOpenTo p (engaged_at s before (owner (setup_of s p) k.rule))) (sym region) open_to)
@@ -302,7 +305,7 @@ module _ (s : Scenario) (law : IsLawful s) (h : List Event) (m : Memory) (r : Re
           ap (λ (x : ℕ). bit_at x bit) (engaged_is (before ++ Turned p t ∷ []) q two.reached l ∙ sym (engaged_is before q one.reached l))
 
 -- all of it
-pub promises : (s : Scenario) → IsLawful s → (h : List Event) (m : Memory) → ReachedWords s h m → KeepsPromises s h
+pub promises : (s : Scenario) → CanRun s → (h : List Event) (m : Memory) → ReachedWords s h m → KeepsPromises s h
 promises s law h m r =
     let k = reached s law h m r in
     record {

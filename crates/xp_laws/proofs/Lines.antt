@@ -6,11 +6,12 @@ use Rattle.std.proofs.lemmas.List.{length-map}
 use Rattle.std.proofs.lemmas.Option.{slice_get_within}
 use Rattle.xp_base.specs.declared.answer.TakeAnswer.TheVariants.{Taken}
 use Rattle.xp_base.specs.Places.{Place, Counter, Entry}
-use Rattle.xp_rules.specs.declared.log.LogAnswer.{LogAnswer}
-use Rattle.xp_rules.specs.declared.log.LogAnswer.TheVariants.{Take as TakeAnswered}
-use Rattle.xp_rules.specs.declared.setup.Link.{Link}
-use Rattle.xp_rules.specs.declared.scenario.Scenario.{Scenario}
-use Rattle.xp_rules.specs.Scenario.{setup_of, links_of, IsLawful}
+use Rattle.xp_script.specs.declared.log.LogAnswer.{LogAnswer}
+use Rattle.xp_script.specs.declared.log.LogAnswer.TheVariants.{Take as TakeAnswered}
+use Rattle.xp_script.specs.declared.part.Link.{Link}
+use Rattle.xp_script.specs.declared.scenario.Scenario.{Scenario}
+use Rattle.xp_script.specs.Parts.{links_of}
+use Rattle.xp_rules.specs.Scenario.{setup_of, CanRun}
 use Rattle.xp_rules.specs.State.{End, start, end_of, end_at, set_end}
 use Rattle.xp_rules.specs.Records.{Recorded, opened_record, update_at}
 use Rattle.xp_rules.proofs.Slots.{at_end}
@@ -71,7 +72,7 @@ update_names (r ∷ rs) (suc n) f h = ap (λ (xs : List Recorded). strip r ∷ x
 
 -- the views of one end of a partition: what it sends, and what it receives
 abbrev pub out_by : (Place → ℕ) → List Recorded → End → ℕ → ℕ → Out
-out_by w rs e q c = record { send = e.send; due = e.asked; accepted = (recorded rs e.record_number).accepted; asked = (recorded rs e.record_number).asked; delivered = (recorded rs e.record_number).delivered; put = w (Counter q c 1); entry = λ k f. w (Entry q c k f) }
+out_by w rs e q c = record { send = e.send; due = e.asked; accepted = (recorded rs e.record_number).accepted; asked = (recorded rs e.record_number).asked; delivered = (recorded rs e.record_number).delivered; put = w (Counter q c 1); queue = λ f. w (Entry q c f) }
 
 abbrev pub in_by : (Place → ℕ) → List Recorded → End → ℕ → ℕ → In
 in_by w rs e q c = record { pull = e.pull; ack = e.ack; stored = e.stored; taken = (recorded rs e.record_number).taken; acked = (recorded rs e.record_number).acked; get = w (Counter q c 0) }
@@ -98,7 +99,7 @@ pub record LikePart (k x : Part) : Type 0 where
   pub ends : (q c : ℕ) → LikeEnd (end_of k.state q c) (end_of x.state q c)
   pub records : x.logged.records ≡ k.logged.records
 
-module _ (s : Scenario) (law : IsLawful s) where
+module _ (s : Scenario) (law : CanRun s) where
   -- what of a partition never changes
   pub record Fixed (p : ℕ) (k : Part) : Type 0 where
     pub warm : (q c : ℕ) → (end_of k.state q c).warm ≡ (end_of (start (setup_of s p)) q c).warm
@@ -223,7 +224,7 @@ module _ (s : Scenario) (law : IsLawful s) where
     record_before = recorded records_before end_before.record_number
 
     abbrev pub out_new : Out
-    out_new = record { send = x.send; due = x.asked; accepted = (f record_before).accepted; asked = (f record_before).asked; delivered = (f record_before).delivered; put = w' a (Counter b d 1); entry = λ k g. w' a (Entry b d k g) }
+    out_new = record { send = x.send; due = x.asked; accepted = (f record_before).accepted; asked = (f record_before).asked; delivered = (f record_before).delivered; put = w' a (Counter b d 1); queue = λ g. w' a (Entry b d g) }
 
     abbrev pub in_new : In
     in_new = record { pull = x.pull; ack = x.ack; stored = x.stored; taken = (f record_before).taken; acked = (f record_before).acked; get = w' a (Counter b d 0) }
@@ -240,7 +241,7 @@ module _ (s : Scenario) (law : IsLawful s) where
       pub quiet : Quiet x
       pub away : (p : ℕ) → (p ≡ a → ⊥) → (pl : Place) → w' p pl ≡ w p pl
       pub counters : (q c g : ℕ) → Other q c b d → w' a (Counter q c g) ≡ w a (Counter q c g)
-      pub entries : (q c k g : ℕ) → Other q c b d → w' a (Entry q c k g) ≡ w a (Entry q c k g)
+      pub entries : (q c g : ℕ) → Other q c b d → w' a (Entry q c g) ≡ w a (Entry q c g)
       pub here : (l : Link) → HasLink s a b d l → Kept out_new (in_at (w b) (σ b) a d) × Kept (out_at (w b) (σ b) a d) in_new
 
     module _ (m : Moves) where
@@ -260,7 +261,7 @@ module _ (s : Scenario) (law : IsLawful s) where
           outs q c l i o =
               let e = end_kept q c o in
               (λ j. out_by (w' a) (m.records j) (e j) q c)
-              ∙ (λ j. record { send = (end_of (σ a).state q c).send; due = (end_of (σ a).state q c).asked; accepted = (records_kept q c l i o m.safe j).accepted; asked = (records_kept q c l i o m.safe j).asked; delivered = (records_kept q c l i o m.safe j).delivered; put = m.counters q c 1 o j; entry = λ k g. m.entries q c k g o j })
+              ∙ (λ j. record { send = (end_of (σ a).state q c).send; due = (end_of (σ a).state q c).asked; accepted = (records_kept q c l i o m.safe j).accepted; asked = (records_kept q c l i o m.safe j).asked; delivered = (records_kept q c l i o m.safe j).delivered; put = m.counters q c 1 o j; queue = λ g. m.entries q c g o j })
 
           ins : (q c : ℕ) (l : Link) → HasLink s a q c l → Other q c b d → in_at (w' a) k' q c ≡ in_at (w a) (σ a) q c
           ins q c l i o =
@@ -277,7 +278,7 @@ module _ (s : Scenario) (law : IsLawful s) where
           ∙ update_here records_before end_before.record_number f (number_low a b d l (σ a) (good.fixed a low) i)
 
       out_is : (l : Link) → HasLink s a b d l → out_at (w' a) k' b d ≡ out_new
-      out_is l i = λ j. record { send = (end_new l i j).send; due = (end_new l i j).asked; accepted = (record_new l i j).accepted; asked = (record_new l i j).asked; delivered = (record_new l i j).delivered; put = w' a (Counter b d 1); entry = λ k g. w' a (Entry b d k g) }
+      out_is l i = λ j. record { send = (end_new l i j).send; due = (end_new l i j).asked; accepted = (record_new l i j).accepted; asked = (record_new l i j).asked; delivered = (record_new l i j).delivered; put = w' a (Counter b d 1); queue = λ g. w' a (Entry b d g) }
 
       in_is : (l : Link) → HasLink s a b d l → in_at (w' a) k' b d ≡ in_new
       in_is l i = λ j. record { pull = (end_new l i j).pull; ack = (end_new l i j).ack; stored = (end_new l i j).stored; taken = (record_new l i j).taken; acked = (record_new l i j).acked; get = w' a (Counter b d 0) }
@@ -326,7 +327,7 @@ module _ (s : Scenario) (law : IsLawful s) where
 
   -- a move that changes no counter and no entry, and nothing of the ends but message requests
   module _ (w w' : Words) (σ : ℕ → Part) (a : ℕ) (k' : Part) (good : Good w σ) (low : a < s.count)
-      (counters : (p q c g : ℕ) → w' p (Counter q c g) ≡ w p (Counter q c g)) (entries : (p q c k g : ℕ) → w' p (Entry q c k g) ≡ w p (Entry q c k g))
+      (counters : (p q c g : ℕ) → w' p (Counter q c g) ≡ w p (Counter q c g)) (entries : (p q c g : ℕ) → w' p (Entry q c g) ≡ w p (Entry q c g))
       (like : LikePart (σ a) k') (told : takes k'.state.script.decided ≡ false) where
     like_all : (p : ℕ) → p < s.count → LikePart (σ p) (at_one σ a k' p)
     like_all = all_but (λ p k. LikePart (σ p) k) σ a k' like (λ p l. record { ends = λ q c. like_self (end_of (σ p).state q c); records = refl })
@@ -334,7 +335,7 @@ module _ (s : Scenario) (law : IsLawful s) where
     out_like : (p q c : ℕ) (x : Part) → LikePart (σ p) x → out_at (w' p) x q c ≡ out_at (w p) (σ p) q c
     out_like p q c x h =
         (λ j. out_by (w' p) (h.records j) ((h.ends q c).is j) q c)
-        ∙ (λ j. record (out_at (w p) (σ p) q c) { put = counters p q c 1 j; entry = λ k g. entries p q c k g j })
+        ∙ (λ j. record (out_at (w p) (σ p) q c) { put = counters p q c 1 j; queue = λ g. entries p q c g j })
 
     in_like : (p q c : ℕ) (x : Part) → (h : LikePart (σ p) x) → in_at (w' p) x q c ≡ record (in_at (w p) (σ p) q c) { pull = record (end_of (σ p).state q c).pull { owed = (h.ends q c).copy } }
     in_like p q c x h =

@@ -1,13 +1,19 @@
 -- The links of the partitions: one for each partner and channel at most, and each has its mirror at the partner.
 use Rattle.std.proofs.Common.{◌≡◌, ℕ, zero, suc, ◌+◌, ◌-◌, ◌*◌, ◌<◌, ◌≤◌, Bool, true, false, ◌&&◌, ◌||◌, cond, eqb, List, [], ◌∷◌, ◌++◌, length, refl, ap, sym, ◌∙◌, subst, arith, Some, inl, inr, ◌⊎◌}
-use Rattle.std.specs.List.{slice_get}
+use Rattle.std.specs.List.{slice_get, AllByRecursion}
 use Rattle.std.proofs.lemmas.Bool.{cases_eq, eqb-true, and_parts}
-use Rattle.xp_rules.specs.declared.setup.Link.{Link}
-use Rattle.xp_rules.specs.declared.scenario.Warm.{Warm}
-use Rattle.xp_rules.specs.declared.scenario.Scenario.{Scenario}
+use Rattle.xp_base.specs.declared.layout.TheConstants.{CHANNELS}
+use Rattle.xp_script.specs.declared.part.Link.{Link}
+use Rattle.xp_script.specs.declared.setting.Minor.{Minor}
+use Rattle.xp_script.specs.declared.setting.Warm.{Warm}
+use Rattle.xp_script.specs.declared.scenario.Scenario.{Scenario}
 use Rattle.xp_rules.specs.Setup.{IsSize}
-use Rattle.xp_rules.specs.Scenario.{joins, link_in, links_to, links_from, links_of, setup_of, IsLawfulWarm, AreLawfulWarms, IsLawful}
+use Rattle.xp_script.specs.Settings.{joins}
+use Rattle.xp_script.specs.Lawful.{IsLawfulWarm}
+use Rattle.xp_script.specs.Parts.{link_in, links_to, links_from, links_of}
+use Rattle.xp_rules.specs.Scenario.{setup_of, CanRun}
 use Rattle.xp_rules.specs.State.{start, end_of, warm_end}
+use Rattle.xp_rules.proofs.Setups.{AreLawfulWarms}
 use Rattle.xp_rules.proofs.Opened.{LinkAt, AreLow, link_opened}
 
 -- an item of two lists, one behind the other
@@ -29,7 +35,7 @@ get_both (y ∷ xs) ys (suc i) x e = elim (get_both xs ys i x e) [
 ]
 
 abbrev key : Link → ℕ
-key l = 4 * l.partner + l.channel
+key l = CHANNELS * l.partner + l.channel
 
 -- links whose keys are of a range, each once
 pub record Keyed (low high : ℕ) (ls : List Link) : Type 0 where
@@ -78,31 +84,31 @@ found_in : (p q c : ℕ) (ws : List Warm) (i : ℕ) (l : Link) → slice_get (li
 found_in p q c [] i l e = absurd (cc)
 found_in p q c (w ∷ ws) i l e = found_by p q c w ws i l (joins p q c w) refl (found_in p q c ws i l) e
 
-keyed_in : (p q c : ℕ) (ws : List Warm) → Keyed (4 * q + c) (4 * q + (c + 1)) (link_in p q c ws)
+keyed_in : (p q c : ℕ) (ws : List Warm) → Keyed (CHANNELS * q + c) (CHANNELS * q + (c + 1)) (link_in p q c ws)
 keyed_in p q c ws = record {
   above = λ i l e. let f = found_in p q c ws i l e in omega (arith, f.1.partner, f.1.channel);
   below = λ i l e. let f = found_in p q c ws i l e in omega (arith, f.1.partner, f.1.channel);
   once = λ i j l k e f g. let a = found_in p q c ws i l e in let b = found_in p q c ws j k f in a.0 ∙ sym b.0;
 }
 
-keyed_to : (p q c n : ℕ) (ws : List Warm) → Keyed (4 * q + c) (4 * q + (c + n)) (links_to p q c n ws)
-keyed_to p q c zero ws = let e : 4 * q + c ≡ 4 * q + (c + 0) = omega arith in subst (λ (k : ℕ). Keyed (4 * q + c) k []) e (keyed_none (4 * q + c))
+keyed_to : (p q c n : ℕ) (ws : List Warm) → Keyed (CHANNELS * q + c) (CHANNELS * q + (c + n)) (links_to p q c n ws)
+keyed_to p q c zero ws = let e : CHANNELS * q + c ≡ CHANNELS * q + (c + 0) = omega arith in subst (λ (k : ℕ). Keyed (CHANNELS * q + c) k []) e (keyed_none (CHANNELS * q + c))
 keyed_to p q c (suc n) ws =
-    let e : 4 * q + (c + 1 + n) ≡ 4 * q + (c + suc n) = omega arith in
-    let k = keyed_append (4 * q + c) (4 * q + (c + 1)) (4 * q + (c + 1 + n)) (link_in p q c ws) (links_to p q (c + 1) n ws) (omega arith) (omega arith) (keyed_in p q c ws) (keyed_to p q (c + 1) n ws) in
-    subst (λ (x : ℕ). Keyed (4 * q + c) x (links_to p q c (suc n) ws)) e k
+    let e : CHANNELS * q + (c + 1 + n) ≡ CHANNELS * q + (c + suc n) = omega arith in
+    let k = keyed_append (CHANNELS * q + c) (CHANNELS * q + (c + 1)) (CHANNELS * q + (c + 1 + n)) (link_in p q c ws) (links_to p q (c + 1) n ws) (omega arith) (omega arith) (keyed_in p q c ws) (keyed_to p q (c + 1) n ws) in
+    subst (λ (x : ℕ). Keyed (CHANNELS * q + c) x (links_to p q c (suc n) ws)) e k
 
-keyed_from : (p q n : ℕ) (ws : List Warm) → Keyed (4 * q) (4 * (q + n)) (links_from p q n ws)
+keyed_from : (p q n : ℕ) (ws : List Warm) → Keyed (CHANNELS * q) (CHANNELS * (q + n)) (links_from p q n ws)
 unfolding links_from
-keyed_from p q zero ws = let e : 4 * q ≡ 4 * (q + 0) = omega arith in subst (λ (k : ℕ). Keyed (4 * q) k []) e (keyed_none (4 * q))
+keyed_from p q zero ws = let e : CHANNELS * q ≡ CHANNELS * (q + 0) = omega arith in subst (λ (k : ℕ). Keyed (CHANNELS * q) k []) e (keyed_none (CHANNELS * q))
 keyed_from p q (suc n) ws =
-    let e : 4 * (q + 1 + n) ≡ 4 * (q + suc n) = omega arith in
-    let f : 4 * q + 0 ≡ 4 * q = omega arith in
-    let g : 4 * q + (0 + 4) ≡ 4 * (q + 1) = omega arith in
-    let here = subst (λ (x : ℕ). Keyed x (4 * q + (0 + 4)) (links_to p q 0 4 ws)) f (keyed_to p q 0 4 ws) in
-    let here' = subst (λ (x : ℕ). Keyed (4 * q) x (links_to p q 0 4 ws)) g here in
-    let k = keyed_append (4 * q) (4 * (q + 1)) (4 * (q + 1 + n)) (links_to p q 0 4 ws) (links_from p (q + 1) n ws) (omega arith) (omega arith) here' (keyed_from p (q + 1) n ws) in
-    subst (λ (x : ℕ). Keyed (4 * q) x (links_from p q (suc n) ws)) e k
+    let e : CHANNELS * (q + 1 + n) ≡ CHANNELS * (q + suc n) = omega arith in
+    let f : CHANNELS * q + 0 ≡ CHANNELS * q = omega arith in
+    let g : CHANNELS * q + (0 + CHANNELS) ≡ CHANNELS * (q + 1) = omega arith in
+    let here = subst (λ (x : ℕ). Keyed x (CHANNELS * q + (0 + CHANNELS)) (links_to p q 0 CHANNELS ws)) f (keyed_to p q 0 CHANNELS ws) in
+    let here' = subst (λ (x : ℕ). Keyed (CHANNELS * q) x (links_to p q 0 CHANNELS ws)) g here in
+    let k = keyed_append (CHANNELS * q) (CHANNELS * (q + 1)) (CHANNELS * (q + 1 + n)) (links_to p q 0 CHANNELS ws) (links_from p (q + 1) n ws) (omega arith) (omega arith) here' (keyed_from p (q + 1) n ws) in
+    subst (λ (x : ℕ). Keyed (CHANNELS * q) x (links_from p q (suc n) ws)) e k
 
 -- a partition has at most one link for each partner and channel
 pub once : (s : Scenario) (p i j : ℕ) (l k : Link) → slice_get (links_of s p) i ≡ Some l → slice_get (links_of s p) j ≡ Some k → l.partner ≡ k.partner → l.channel ≡ k.channel → i ≡ j
@@ -116,15 +122,15 @@ found_to p q c (suc n) ws i l e = elim (get_both (link_in p q c ws) (links_to p 
   | inr h ↦ let f = found_to p q (c + 1) n ws (i - length (link_in p q c ws)) l h.1 in (f.0, omega (arith, f.1))
 ]
 
-found_from : (p q n : ℕ) (ws : List Warm) (i : ℕ) (l : Link) → slice_get (links_from p q n ws) i ≡ Some l → Found p ws l.partner l.channel l × (l.partner < q + n) × (l.channel < 4)
+found_from : (p q n : ℕ) (ws : List Warm) (i : ℕ) (l : Link) → slice_get (links_from p q n ws) i ≡ Some l → Found p ws l.partner l.channel l × (l.partner < q + n) × (l.channel < CHANNELS)
 unfolding links_from
 found_from p q zero ws i l e = absurd (cc)
-found_from p q (suc n) ws i l e = elim (get_both (links_to p q 0 4 ws) (links_from p (q + 1) n ws) i l e) [
-  | inl h ↦ let f = found_to p q 0 4 ws i l h in (record { partner = refl; channel = refl; only = ap (λ (x : ℕ). link_in p x l.channel ws) f.0.partner ∙ f.0.only }, omega (arith, f.0.partner), omega (arith, f.1))
-  | inr h ↦ let f = found_from p (q + 1) n ws (i - length (links_to p q 0 4 ws)) l h.1 in (f.0, omega (arith, f.1), f.2)
+found_from p q (suc n) ws i l e = elim (get_both (links_to p q 0 CHANNELS ws) (links_from p (q + 1) n ws) i l e) [
+  | inl h ↦ let f = found_to p q 0 CHANNELS ws i l h in (record { partner = refl; channel = refl; only = ap (λ (x : ℕ). link_in p x l.channel ws) f.0.partner ∙ f.0.only }, omega (arith, f.0.partner), omega (arith, f.1))
+  | inr h ↦ let f = found_from p (q + 1) n ws (i - length (links_to p q 0 CHANNELS ws)) l h.1 in (f.0, omega (arith, f.1), f.2)
 ]
 
-pub found : (s : Scenario) (p i : ℕ) (l : Link) → slice_get (links_of s p) i ≡ Some l → Found p s.warms l.partner l.channel l × (l.partner < s.count) × (l.channel < 4)
+pub found : (s : Scenario) (p i : ℕ) (l : Link) → slice_get (links_of s p) i ≡ Some l → Found p s.warms l.partner l.channel l × (l.partner < s.count) × (l.channel < CHANNELS)
 found s p i l e = let f = found_from p 0 s.count s.warms i l e in (f.0, omega (arith, f.1), f.2)
 
 -- and what is found stands among them
@@ -135,15 +141,15 @@ listed_to p q c (suc n) x ws l e h k = elim (cases_eq x c) [
   | inr d ↦ let r = listed_to p q (c + 1) n x ws l e (omega (arith, d, h)) (omega arith) in (length (link_in p q c ws) + r.0, get_right (link_in p q c ws) (links_to p q (c + 1) n ws) r.0 ∙ r.1)
 ]
 
-listed_from : (p q n x c : ℕ) (ws : List Warm) (l : Link) → link_in p x c ws ≡ l ∷ [] → q ≤ x → x < q + n → c < 4 → (i : ℕ) × (slice_get (links_from p q n ws) i ≡ Some l)
+listed_from : (p q n x c : ℕ) (ws : List Warm) (l : Link) → link_in p x c ws ≡ l ∷ [] → q ≤ x → x < q + n → c < CHANNELS → (i : ℕ) × (slice_get (links_from p q n ws) i ≡ Some l)
 unfolding links_from
 listed_from p q zero x c ws l e h k j = absurd (omega arith)
 listed_from p q (suc n) x c ws l e h k j = elim (cases_eq x q) [
-  | inl d ↦ let r = listed_to p q 0 4 c ws l (ap (λ (y : ℕ). link_in p y c ws) (sym d) ∙ e) (omega arith) (omega arith) in (r.0, get_left (links_to p q 0 4 ws) (links_from p (q + 1) n ws) r.0 l r.1)
-  | inr d ↦ let r = listed_from p (q + 1) n x c ws l e (omega (arith, d, h)) (omega arith) j in (length (links_to p q 0 4 ws) + r.0, get_right (links_to p q 0 4 ws) (links_from p (q + 1) n ws) r.0 ∙ r.1)
+  | inl d ↦ let r = listed_to p q 0 CHANNELS c ws l (ap (λ (y : ℕ). link_in p y c ws) (sym d) ∙ e) (omega arith) (omega arith) in (r.0, get_left (links_to p q 0 CHANNELS ws) (links_from p (q + 1) n ws) r.0 l r.1)
+  | inr d ↦ let r = listed_from p (q + 1) n x c ws l e (omega (arith, d, h)) (omega arith) j in (length (links_to p q 0 CHANNELS ws) + r.0, get_right (links_to p q 0 CHANNELS ws) (links_from p (q + 1) n ws) r.0 ∙ r.1)
 ]
 
-pub listed : (s : Scenario) (p q c : ℕ) (l : Link) → link_in p q c s.warms ≡ l ∷ [] → q < s.count → c < 4 → (i : ℕ) × (slice_get (links_of s p) i ≡ Some l)
+pub listed : (s : Scenario) (p q c : ℕ) (l : Link) → link_in p q c s.warms ≡ l ∷ [] → q < s.count → c < CHANNELS → (i : ℕ) × (slice_get (links_of s p) i ≡ Some l)
 listed s p q c l e h k = listed_from p 0 s.count q c s.warms l e (omega arith) (omega arith) k
 
 -- a link as its partner sees it
@@ -181,21 +187,24 @@ pub record IsLine (n p q c : ℕ) (l : Link) : Type 0 where
   pub first : p < n
   pub second : q < n
   pub apart : p ≡ q → ⊥
-  pub channel : c < 4
+  pub channel : c < CHANNELS
   pub size : IsSize l.entries l.limit
 
-line_of : (n p q c : ℕ) (w : Warm) → IsLawfulWarm n w → joins p q c w ≡ true → IsLine n p q c (seen_as q c w)
+line_of : (n p q c : ℕ) (w : Warm) → IsLawfulWarm n [] w → joins p q c w ≡ true → IsLine n p q c (seen_as q c w)
 line_of n p q c w h e = let o = or_cases (eqb w.first p && eqb w.second q) (eqb w.first q && eqb w.second p) (eqb w.channel c) e in by o.0 (eqb-true w.channel c o.1)
   where
+    size : IsSize w.entries w.limit
+    size = (h.first_size.some, h.first_size.few, h.first_size.short)
+
     by : ((eqb w.first p && eqb w.second q) ≡ true) ⊎ ((eqb w.first q && eqb w.second p) ≡ true) → w.channel ≡ c → IsLine n p q c (seen_as q c w)
     by (inl x) d =
         let a = and_parts _ _ x in let f = eqb-true w.first p a.0 in let g = eqb-true w.second q a.1 in
-        record { first = omega (arith, f, h.0); second = omega (arith, g, h.1); apart = λ r. h.2 (f ∙ r ∙ sym g); channel = omega (arith, d, h.3); size = h.4 }
+        record { first = omega (arith, f, h.first); second = omega (arith, g, h.second); apart = λ r. h.different (f ∙ r ∙ sym g); channel = omega (arith, d, h.channel); size = size }
     by (inr x) d =
         let a = and_parts _ _ x in let f = eqb-true w.first q a.0 in let g = eqb-true w.second p a.1 in
-        record { first = omega (arith, g, h.1); second = omega (arith, f, h.0); apart = λ r. h.2 (f ∙ sym r ∙ sym g); channel = omega (arith, d, h.3); size = h.4 }
+        record { first = omega (arith, g, h.second); second = omega (arith, f, h.first); apart = λ r. h.different (f ∙ sym r ∙ sym g); channel = omega (arith, d, h.channel); size = size }
 
-line_by : (n p q c : ℕ) (w : Warm) (ws : List Warm) (l : Link) (b : Bool) → IsLawfulWarm n w → joins p q c w ≡ b → (link_in p q c ws ≡ l ∷ [] → IsLine n p q c l) → cond b (seen_as q c w ∷ []) (link_in p q c ws) ≡ l ∷ [] → IsLine n p q c l
+line_by : (n p q c : ℕ) (w : Warm) (ws : List Warm) (l : Link) (b : Bool) → IsLawfulWarm n [] w → joins p q c w ≡ b → (link_in p q c ws ≡ l ∷ [] → IsLine n p q c l) → cond b (seen_as q c w ∷ []) (link_in p q c ws) ≡ l ∷ [] → IsLine n p q c l
 line_by n p q c w ws l true h t more f = let same : seen_as q c w ≡ l = cc in subst (λ (x : Link). IsLine n p q c x) same (line_of n p q c w h t)
 line_by n p q c w ws l false h t more f = more f
 
@@ -203,29 +212,33 @@ line_in : (n p q c : ℕ) (ws : List Warm) (l : Link) → AreLawfulWarms n ws �
 line_in n p q c [] l h e = absurd (cc)
 line_in n p q c (w ∷ ws) l h e = line_by n p q c w ws l (joins p q c w) h.0 refl (line_in n p q c ws l h.1) e
 
+-- no setting of such a scenario says a minor version
+lines_of : (s : Scenario) → CanRun s → AreLawfulWarms s.count s.warms
+lines_of s h = subst (λ (ms : List Minor). AllByRecursion (IsLawfulWarm s.count ms) s.warms) h.built.settings.minors h.lawful.settings.warms.each
+
 -- a link of p, with its number among them
 abbrev pub HasLink : Scenario → ℕ → ℕ → ℕ → Link → Type 0
 HasLink s p q c l = LinkAt (setup_of s p) q c l
 
-pub line : (s : Scenario) (p q c : ℕ) (l : Link) → IsLawful s → HasLink s p q c l → IsLine s.count p q c l
+pub line : (s : Scenario) (p q c : ℕ) (l : Link) → CanRun s → HasLink s p q c l → IsLine s.count p q c l
 line s p q c l h k =
     let f = (found s p k.number l k.listed).0 in
     let e : link_in p q c s.warms ≡ l ∷ [] = rw (sym k.partner, sym k.channel) f.only in
-    line_in s.count p q c s.warms l h.warms e
+    line_in s.count p q c s.warms l (lines_of s h) e
 
 -- each link has its mirror
-pub mirrored : (s : Scenario) (p q c : ℕ) (l : Link) → IsLawful s → HasLink s p q c l → HasLink s q p c (mirror p l)
+pub mirrored : (s : Scenario) (p q c : ℕ) (l : Link) → CanRun s → HasLink s p q c l → HasLink s q p c (mirror p l)
 mirrored s p q c l h k =
     let f = (found s p k.number l k.listed).0 in
     let e : link_in p q c s.warms ≡ l ∷ [] = rw (sym k.partner, sym k.channel) f.only in
-    let i = line_in s.count p q c s.warms l h.warms e in
+    let i = line_in s.count p q c s.warms l (lines_of s h) e in
     let r = listed s q p c (mirror p l) (mirror_in p q c s.warms l e) i.first i.channel in
     record { number = r.0; listed = r.1; partner = refl; channel = k.channel }
 
 -- at the opening, the end of each link is connected
-pub start_end : (s : Scenario) (p q c : ℕ) (l : Link) → IsLawful s → (k : HasLink s p q c l) → end_of (start (setup_of s p)) q c ≡ warm_end p k.number l
+pub start_end : (s : Scenario) (p q c : ℕ) (l : Link) → CanRun s → (k : HasLink s p q c l) → end_of (start (setup_of s p)) q c ≡ warm_end p k.number l
 start_end s p q c l h k =
-    let low : AreLow (links_of s p) = λ i m e. let d = found s p i m e in (omega (arith, d.1, h.high), d.2) in
+    let low : AreLow (links_of s p) = λ i m e. let d = found s p i m e in (omega (arith, d.1, h.built.count), d.2) in
     let o = link_opened (setup_of s p) q c l low k in
     let same : o.at.number ≡ k.number = once s p o.at.number k.number o.link l o.at.listed k.listed (o.at.partner ∙ sym k.partner) (o.at.channel ∙ sym k.channel) in
     let both : Some o.link ≡ Some l = sym o.at.listed ∙ ap (slice_get (links_of s p)) same ∙ k.listed in

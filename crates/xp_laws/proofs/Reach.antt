@@ -5,14 +5,15 @@ use Rattle.xp_base.specs.declared.step.Answer.TheVariants.{Word, Failed}
 use Rattle.xp_base.specs.declared.step.OpKind.TheVariants.{Load}
 use Rattle.xp_base.specs.Memory.{Memory}
 use Rattle.xp_base.specs.History.{Act, Turn, Event, Poked, Turned, Legal, happens, turns_of}
+use Rattle.xp_base.specs.declared.layout.TheConstants.{ENGAGED}
 use Rattle.xp_base.specs.Places.{Open, Flag}
 use Rattle.xp_base.proofs.HistoryLemmas.{turns_of-append}
 use Rattle.xp_rules.specs.declared.rule.RingRule.TheVariants.{ReadGet, WriteEntryWord, AcceptMessage}
 use Rattle.xp_rules.specs.declared.rule.Rule.{Rule}
 use Rattle.xp_rules.specs.declared.rule.Rule.TheVariants.{Ring, Pull, Acknowledge, TakeFlags, SetFlag}
-use Rattle.xp_rules.specs.declared.setup.Link.{Link}
+use Rattle.xp_script.specs.declared.part.Link.{Link}
 use Rattle.xp_rules.specs.declared.setup.Setup.{Setup}
-use Rattle.xp_rules.specs.declared.scenario.Scenario.{Scenario}
+use Rattle.xp_script.specs.declared.scenario.Scenario.{Scenario}
 use Rattle.xp_rules.specs.Setup.{IsSize}
 use Rattle.std.specs.Prelude.{IsSome}
 use Rattle.xp_rules.specs.Sending.{new_sending, is_bad_get}
@@ -27,7 +28,9 @@ use Rattle.xp_rules.specs.Rules.{Can, kind}
 use Rattle.xp_rules.specs.Flags.{message_flag}
 use Rattle.xp_rules.specs.Acts.{MayAct, must_answer}
 use Rattle.xp_rules.specs.Runs.{MayMake, RunsFrom, after_turn, state_after}
-use Rattle.xp_rules.specs.Scenario.{setup_of, links_of, opening, IsLawful}
+use Rattle.xp_script.specs.Parts.{links_of}
+use Rattle.xp_script.specs.Opening.{opening}
+use Rattle.xp_rules.specs.Scenario.{setup_of, CanRun}
 use Rattle.xp_rules.specs.Reached.{AreTurnsOf, ReachedWords}
 use Rattle.xp_rules.specs.Promised.{memory_by, until}
 use Rattle.xp_laws.proofs.Words.{Words, Agrees}
@@ -48,9 +51,9 @@ use Rattle.xp_laws.proofs.Freed.{Freed}
 use Rattle.xp_laws.proofs.Released.{Released, released_act, released_rule}
 
 -- all that is known
-pub record Sound (s : Scenario) (law : IsLawful s) (w : Words) (σ : ℕ → Part) : Type 0 where
+pub record Sound (s : Scenario) (law : CanRun s) (w : Words) (σ : ℕ → Part) : Type 0 where
   pub good : Good s law w σ
-  pub engaged : (q : ℕ) → w q (Open 12) ≡ opening_words s q (Open 12)
+  pub engaged : (q : ℕ) → w q (Open ENGAGED) ≡ opening_words s q (Open ENGAGED)
   pub requested : Requested w
   pub partners : (p : ℕ) → p < s.count → Partners (σ p)
   pub unblamed : (p : ℕ) → p < s.count → Unblamed (σ p)
@@ -58,7 +61,7 @@ pub record Sound (s : Scenario) (law : IsLawful s) (w : Words) (σ : ℕ → Par
   pub sends : (p : ℕ) → p < s.count → Sends (setup_of s p) (σ p)
   pub log : (p : ℕ) → p < s.count → Log (setup_of s p) (σ p)
 
-engaged_rule : (su : Setup) (st : State) (r : Rule) (w : Words) (q : ℕ) → does_rule su st r w q (Open 12) ≡ w q (Open 12)
+engaged_rule : (su : Setup) (st : State) (r : Rule) (w : Words) (q : ℕ) → does_rule su st r w q (Open ENGAGED) ≡ w q (Open ENGAGED)
 engaged_rule su st (Ring q c ReadGet) w o = refl
 engaged_rule su st (Ring q c (WriteEntryWord f)) w o = refl
 engaged_rule su st (Ring q c AcceptMessage) w o = refl
@@ -79,7 +82,7 @@ requested_rule su st (SetFlag q c) w can h p k =
     let old = w q (Flag su.part) in
     cond_both (eqb su.part k && eqb q p) (bit_or old (message_flag c)) (w p (Flag k)) HasRequests (λ d. either_requested old (message_flag c) (h q su.part) (request_alone c can.0.peer.2)) (λ d. h p k)
 
-module _ (s : Scenario) (law : IsLawful s) where
+module _ (s : Scenario) (law : CanRun s) where
   sound_act : (w : Words) (σ : ℕ → Part) (a : ℕ) (x : Act) → a < s.count → Sound s law w σ → MayAct (setup_of s a) (σ a).state x → Sound s law w (at_one σ a (part_act (setup_of s a) (σ a) x))
   sound_act w σ a x low h may = record {
     good = keeps_act s law w σ a x low h.good may;
@@ -122,7 +125,7 @@ module _ (s : Scenario) (law : IsLawful s) where
       }
 
   is_part : (p : ℕ) → p < s.count → IsPart (setup_of s p) s.count p
-  is_part p l = record { lawful = lawful_setup s p law l; part = refl; count = refl }
+  is_part p l = record { lawful = lawful_setup s p law.lawful law.built l; part = refl; count = refl }
 
   -- the opening
   strip_opened : (ls : List Link) → map strip (map opened_record ls) ≡ map opened_record ls
@@ -154,17 +157,17 @@ module _ (s : Scenario) (law : IsLawful s) where
   no_acked (l ∷ ls) zero = refl
   no_acked (l ∷ ls) (suc n) = no_acked ls n
 
-  abbrev first_out : ℕ → ℕ → ℕ → Link → (ℕ → ℕ → ℕ) → Out
-  first_out p q c l entry = record { send = new_sending p q c l.entries l.limit; due = []; accepted = []; asked = []; delivered = []; put = 0; entry = entry }
+  abbrev first_out : ℕ → ℕ → ℕ → Link → (ℕ → ℕ) → Out
+  first_out p q c l queue = record { send = new_sending p q c l.entries l.limit; due = []; accepted = []; asked = []; delivered = []; put = 0; queue = queue }
 
   abbrev first_in : ℕ → ℕ → ℕ → Link → In
   first_in q p c l = record { pull = new_pulling q p c l.entries l.limit; ack = new_releasing; stored = 0; taken = []; acked = 0; get = 0 }
 
-  first_kept : (p q c own : ℕ) (l : Link) (entry : ℕ → ℕ → ℕ) → IsSize l.entries l.limit → Kept (first_out p q c l entry) (first_in own p c l)
-  first_kept p q c own l entry z = record {
+  first_kept : (p q c own : ℕ) (l : Link) (queue : ℕ → ℕ) → IsSize l.entries l.limit → Kept (first_out p q c l queue) (first_in own p c l)
+  first_kept p q c own l queue z = record {
     chain = omega (arith, z.0, z.1, z.2);
     held = record { at = λ k f le lt i. absurd (omega (arith, lt)) };
-    written = none_written l.entries 0 0 [] entry;
+    written = none_written l.entries 0 0 [] queue;
     bodies = record { payload = sized_none l.limit; accepted = λ k. sized_none l.limit; same = λ k lt. absurd (omega (arith, lt)) };
     copied = record { at = λ f lt. absurd (omega (arith, lt)); within = omega arith; below = λ lt. absurd (omega (arith, lt)) };
     told = told_none 0 0;
@@ -178,10 +181,10 @@ module _ (s : Scenario) (law : IsLawful s) where
       let k = mirrored s p q c l law i in
       let e = start_end s p q c l law i in
       let f = start_end s q p c (mirror p l) law k in
-      let o : first_out p l.partner l.channel l (out_at (opening_words s p) (first_parts p) q c).entry ≡ out_at (opening_words s p) (first_parts p) q c = λ j. record { send = (sym e j).send; due = (sym e j).asked; accepted = sym (no_accepted (links_of s p) (end_of (start (setup_of s p)) q c).record_number) j; asked = sym (no_asked (links_of s p) (end_of (start (setup_of s p)) q c).record_number) j; delivered = sym (no_delivered (links_of s p) (end_of (start (setup_of s p)) q c).record_number) j; put = sym (counter_zero s p q c 1) j; entry = (out_at (opening_words s p) (first_parts p) q c).entry } in
+      let o : first_out p l.partner l.channel l (out_at (opening_words s p) (first_parts p) q c).queue ≡ out_at (opening_words s p) (first_parts p) q c = λ j. record { send = (sym e j).send; due = (sym e j).asked; accepted = sym (no_accepted (links_of s p) (end_of (start (setup_of s p)) q c).record_number) j; asked = sym (no_asked (links_of s p) (end_of (start (setup_of s p)) q c).record_number) j; delivered = sym (no_delivered (links_of s p) (end_of (start (setup_of s p)) q c).record_number) j; put = sym (counter_zero s p q c 1) j; queue = (out_at (opening_words s p) (first_parts p) q c).queue } in
       let y : first_in q p l.channel l ≡ in_at (opening_words s q) (first_parts q) p c = λ j. record { pull = (sym f j).pull; ack = (sym f j).ack; stored = (sym f j).stored; taken = sym (no_taken (links_of s q) (end_of (start (setup_of s q)) p c).record_number) j; acked = sym (no_acked (links_of s q) (end_of (start (setup_of s q)) p c).record_number) j; get = sym (counter_zero s q p c 0) j } in
       let P : Out → In → Type 0 = λ a b. Kept a b in
-      subst (P (out_at (opening_words s p) (first_parts p) q c)) y (subst (λ a. P a (first_in q p l.channel l)) o (first_kept p l.partner l.channel q l (out_at (opening_words s p) (first_parts p) q c).entry (line s p q c l law i).size))
+      subst (P (out_at (opening_words s p) (first_parts p) q c)) y (subst (λ a. P a (first_in q p l.channel l)) o (first_kept p l.partner l.channel q l (out_at (opening_words s p) (first_parts p) q c).queue (line s p q c l law i).size))
 
   first_sound : Sound s law (opening_words s) first_parts
   first_sound = record {
@@ -250,7 +253,7 @@ split s es fs m r =
 abbrev cut : Turn → Turn
 cut t = record { before = t.before; made = None; after = [] }
 
-module _ (s : Scenario) (law : IsLawful s) where
+module _ (s : Scenario) (law : CanRun s) where
   until_by : (before : List Event) (p : ℕ) (t : Turn) (q : ℕ) (b : Bool) → (b ≡ true → p ≡ q) → cond b (part_acts (setup_of s p) (parts_of s law before p) t.before) (parts_of s law before q) ≡ part_from (setup_of s q) (parts_of s law before q) (cond b (cut t ∷ []) [])
   until_by before p t q true e = ap (λ (x : ℕ). part_acts (setup_of s x) (parts_of s law before x) t.before) (e refl)
   until_by before p t q false e = refl

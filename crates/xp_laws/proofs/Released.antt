@@ -5,9 +5,9 @@ use Rattle.xp_base.specs.declared.step.Answer.{Answer}
 use Rattle.xp_base.specs.declared.step.Answer.TheVariants.{Word, Failed}
 use Rattle.xp_base.specs.declared.answer.ReleaseAnswer.{ReleaseAnswer}
 use Rattle.xp_base.specs.History.{Act, Begun, Answered, Noticed}
-use Rattle.xp_rules.specs.declared.commands.Command.{Command}
-use Rattle.xp_rules.specs.declared.commands.Command.TheVariants.{Send, Take, Release, Drain}
-use Rattle.xp_rules.specs.declared.log.LogAnswer.{LogAnswer}
+use Rattle.xp_rules.specs.declared.commands.ChannelCommand.{ChannelCommand}
+use Rattle.xp_rules.specs.declared.commands.ChannelCommand.TheVariants.{Send, Take, Release, Drain}
+use Rattle.xp_script.specs.declared.log.LogAnswer.{LogAnswer}
 use Rattle.xp_rules.specs.declared.rule.Rule.{Rule}
 use Rattle.xp_rules.specs.declared.rule.Rule.TheVariants.{Ring, Pull, Acknowledge, TakeFlags, SetFlag}
 use Rattle.xp_rules.specs.declared.rule.PullRule.TheVariants.{ReadCounters, ReadEntry}
@@ -30,7 +30,7 @@ Released k = (q c : ℕ) → Freed (k.released q c) (end_of k.state q c).ack
 send_begun_ack : (e : End) (q c : ℕ) (payload : List ℕ) (wait notify : Bool) → (end_begun e (Send q c payload wait notify)).ack ≡ e.ack
 send_begun_ack e q c payload wait notify = cond_both e.warm _ e (λ (y : End). y.ack ≡ e.ack) (λ d. refl) (λ d. refl)
 
-released_begun : (st : State) (f : ℕ → ℕ → List ℕ) (x : Option Command) → ((q c : ℕ) → Freed (f q c) (end_of st q c).ack) → (q c : ℕ) → Freed (begun_released st q c x (f q c)) (end_of (begun_with st x) q c).ack
+released_begun : (st : State) (f : ℕ → ℕ → List ℕ) (x : Option ChannelCommand) → ((q c : ℕ) → Freed (f q c) (end_of st q c).ack) → (q c : ℕ) → Freed (begun_released st q c x (f q c)) (end_of (begun_with st x) q c).ack
 released_begun st f None h q c = h q c
 released_begun st f (Some (Send k d payload wait notify)) h q c =
     let e = stays_end (λ (y : End). y.ack) st.ends k d (end_begun (end_of st k d) (Send k d payload wait notify)) q c (send_begun_ack (end_of st k d) k d payload wait notify) in
@@ -54,7 +54,7 @@ released_begun st f (Some (Release k d number)) h q c =
     old
 
 -- the command in progress is answered
-released_answered : (st : State) (f : ℕ → ℕ → List ℕ) (x : Option Command) (b : Option LogAnswer) → ((q c : ℕ) → Freed (f q c) (end_of st q c).ack) → (q c : ℕ) → Freed (f q c) (end_at (ends_answered st x b) q c).ack
+released_answered : (st : State) (f : ℕ → ℕ → List ℕ) (x : Option ChannelCommand) (b : Option LogAnswer) → ((q c : ℕ) → Freed (f q c) (end_of st q c).ack) → (q c : ℕ) → Freed (f q c) (end_at (ends_answered st x b) q c).ack
 released_answered st f None b h q c = h q c
 released_answered st f (Some (Send k d payload wait notify)) b h q c = h q c
 released_answered st f (Some (Release k d number)) b h q c = h q c
@@ -68,7 +68,7 @@ released_answered st f (Some (Take k d wait)) None h q c =
 pub released_act : (su : Setup) (k : Part) (x : Act) → Released k → Released (part_act su k x)
 released_act su k Begun h q c = released_begun k.state k.released (upcoming su k.state) h q c
 released_act su k Answered h q c = released_answered k.state k.released (current su k.state) k.state.script.decided h q c
-released_act su k (Noticed a b) h q c =
+released_act su k (Noticed a b number kind) h q c =
     let e = stays_end (λ (y : End). y.ack) k.state.ends a b (end_noticed (end_of k.state a b)) q c refl in
     subst (Freed (k.released q c)) (sym e) (h q c)
 

@@ -1,17 +1,18 @@
 -- Each rule keeps all directions.
-use Rattle.std.proofs.Common.{◌≡◌, ℕ, ◌+◌, ◌%◌, ◌^◌, ◌<◌, Bool, true, false, ◌&&◌, cond, eqb, [], ◌∷◌, ◌++◌, refl, ap, sym, subst, Option, Some, None, inl, inr, ◌⊎◌, bit_or}
+use Rattle.std.proofs.Common.{◌≡◌, ℕ, ◌+◌, ◌*◌, ◌%◌, ◌^◌, ◌<◌, Bool, true, false, ◌&&◌, cond, eqb, [], ◌∷◌, ◌++◌, refl, ap, sym, subst, Option, Some, None, inl, inr, ◌⊎◌, bit_or}
 use Rattle.std.proofs.lemmas.Bool.{cases_eq, eq-eqb, ne_eqb, cond_both}
 use Rattle.xp_base.specs.declared.step.OpKind.TheVariants.{Load, Store}
 use Rattle.xp_base.specs.declared.step.Answer.TheVariants.{Word, Failed}
 use Rattle.xp_base.specs.declared.answer.SendAnswer.{SendAnswer}
+use Rattle.xp_base.specs.declared.layout.TheConstants.{LINE_WORDS}
 use Rattle.xp_base.specs.Entries.{message_word}
 use Rattle.xp_base.specs.Places.{Counter, Entry}
 use Rattle.xp_rules.specs.declared.rule.RingRule.TheVariants.{ReadGet, WriteEntryWord, AcceptMessage}
 use Rattle.xp_rules.specs.declared.rule.PullRule.TheVariants.{ReadCounters, ReadEntry}
 use Rattle.xp_rules.specs.declared.rule.Rule.{Rule}
 use Rattle.xp_rules.specs.declared.rule.Rule.TheVariants.{Ring, Pull, Acknowledge, TakeFlags, SetFlag}
-use Rattle.xp_rules.specs.declared.scenario.Scenario.{Scenario}
-use Rattle.xp_rules.specs.Scenario.{setup_of, IsLawful}
+use Rattle.xp_script.specs.declared.scenario.Scenario.{Scenario}
+use Rattle.xp_rules.specs.Scenario.{setup_of, CanRun}
 use Rattle.xp_rules.specs.Sending.{Sending, payload_of, send_over, ring_after, ring_answer}
 use Rattle.xp_rules.specs.Pulling.{owed_after, counters_word, pull_failed}
 use Rattle.xp_rules.specs.State.{Scripted, End, end_of}
@@ -24,7 +25,7 @@ use Rattle.xp_laws.proofs.Words.{Words, write, self, far}
 use Rattle.xp_laws.proofs.Parts.{Part, part_ruled}
 use Rattle.xp_laws.proofs.Always.{at_one, does_rule, told}
 use Rattle.xp_laws.proofs.Notices.{told_asked, told_unasked}
-use Rattle.xp_laws.proofs.Direction.{Out, In, Kept, write_entry, get_read, word_written, message_accepted, counters_out, counters_in, counters_set, entry_read, copy_ended, get_stored}
+use Rattle.xp_laws.proofs.Direction.{Out, In, Kept, write_queue, get_read, word_written, message_accepted, counters_out, counters_in, counters_set, entry_read, copy_ended, get_stored}
 use Rattle.xp_laws.proofs.Lines.{takes, warm_quiet, recorded, strip, Good, good_after, good_same, LikeEnd, like_self, good_like, sent, got, out_at, in_at, update_nothing}
 
 -- a word of another end is another word
@@ -39,24 +40,19 @@ other_end true q c k d o = by (cases_eq d c)
 other_counter : (w : Words) (a k d g v q c h : ℕ) → Other q c k d → write w a (Counter k d g) v a (Counter q c h) ≡ w a (Counter q c h)
 other_counter w a k d g v q c h o = rw (other_end (eqb g h) q c k d o) refl
 
-and_swap : (a b c : Bool) → (a && (b && c)) ≡ ((a && b) && c)
-and_swap true b c = refl
-and_swap false b c = refl
-
-other_entry : (w : Words) (a k d i g v q c j h : ℕ) → Other q c k d → write w a (Entry k d i g) v a (Entry q c j h) ≡ w a (Entry q c j h)
-other_entry w a k d i g v q c j h o = rw (and_swap (eqb g h) (eqb i j) (eqb d c && eqb k q), other_end (eqb g h && eqb i j) q c k d o) refl
+other_entry : (w : Words) (a k d g v q c h : ℕ) → Other q c k d → write w a (Entry k d g) v a (Entry q c h) ≡ w a (Entry q c h)
+other_entry w a k d g v q c h o = rw (other_end (eqb g h) q c k d o) refl
 
 -- the words of the own end
 counter_written : (w : Words) (a q c g v : ℕ) → write w a (Counter q c g) v a (Counter q c g) ≡ v
 counter_written w a q c g v = rw (self g, self c, self q, self a) refl
 
-entry_at : (b d : Bool) (v x : ℕ) → cond ((b && (d && (true && true))) && true) v x ≡ cond (b && d) v x
-entry_at true true v x = refl
-entry_at true false v x = refl
-entry_at false d v x = refl
+queue_at : (b : Bool) (v x : ℕ) → cond ((b && (true && true)) && true) v x ≡ cond b v x
+queue_at true v x = refl
+queue_at false v x = refl
 
-entry_written : (w : Words) (a q c i g v j h : ℕ) → write w a (Entry q c i g) v a (Entry q c j h) ≡ write_entry (λ k f. w a (Entry q c k f)) i g v j h
-entry_written w a q c i g v j h = rw (self c, self q, self a) (entry_at (eqb g h) (eqb i j) v (w a (Entry q c j h)))
+queue_written : (w : Words) (a q c g v h : ℕ) → write w a (Entry q c g) v a (Entry q c h) ≡ write_queue (λ f. w a (Entry q c f)) g v h
+queue_written w a q c g v h = rw (self c, self q, self a) (queue_at (eqb g h) v (w a (Entry q c h)))
 
 -- what a rule decides takes nothing
 takes_send : (o : Option SendAnswer) (x : Scripted) → takes x.decided ≡ false → takes (send_decided o x).decided ≡ false
@@ -80,7 +76,7 @@ accepted_in o i x r h = cond_both (wants_notice x.send) _ _ (λ (y : Recorded). 
 accepted_names : (x : Sending) (r : Recorded) → strip (accepted_by x r) ≡ strip r
 accepted_names x r = cond_both (wants_notice x.send) _ _ (λ (y : Recorded). strip y ≡ strip r) (λ d. refl) (λ d. refl)
 
-module _ (s : Scenario) (law : IsLawful s) where
+module _ (s : Scenario) (law : CanRun s) where
   module _ (w : Words) (σ : ℕ → Part) (a : ℕ) (low : a < s.count) (good : Good s law w σ) where
     abbrev told_now : Rule → ℕ
     told_now r = told (setup_of s a) (σ a).state r w
@@ -103,7 +99,7 @@ module _ (s : Scenario) (law : IsLawful s) where
           told = takes_send (ring_answer e.send ReadGet v) (σ a).state.script (good.told a low);
           away = λ p n pl. refl;
           counters = λ q' c' g o. refl;
-          entries = λ q' c' k g o. refl;
+          entries = λ q' c' g o. refl;
           here = λ l i. (get_read (out_at (w a) (σ a) q c) (in_at (w q) (σ q) a c) (sent s law w σ a good q c l i), got s law w σ a good q c l i);
         })
 
@@ -111,7 +107,8 @@ module _ (s : Scenario) (law : IsLawful s) where
     keeps_write_word q c f can =
         let e = end_of (σ a).state q c in
         let word = message_word e.send.put (payload_of e.send.send) f in
-        let place = Entry q c (e.send.put % e.send.entries) f in
+        let slot = LINE_WORDS * (e.send.put % e.send.entries) + f in
+        let place = Entry q c slot in
         let x : End = record e { send = record e.send { stored = bit_or e.send.stored (2 ^ f) } } in
         let before = out_at (w a) (σ a) q c in
         good_after s law w (write w a place word) σ a q c (part_now (Ring q c (WriteEntryWord f))) x (λ (r : Recorded). r) good low (record {
@@ -125,8 +122,8 @@ module _ (s : Scenario) (law : IsLawful s) where
           quiet = warm_quiet _ can.0.warm;
           away = λ p n pl. far (Store word) a place w p pl (λ d. n (sym d));
           counters = λ q' c' g o. refl;
-          entries = λ q' c' k g o. other_entry w a q c (e.send.put % e.send.entries) f word q' c' k g o;
-          here = λ l i. (subst (λ (y : ℕ → ℕ → ℕ). Kept (record before { send = x.send; entry = y }) (in_at (w q) (σ q) a c)) (λ j k g. sym (entry_written w a q c (e.send.put % e.send.entries) f word k g) j) (word_written before (in_at (w q) (σ q) a c) f can.1.2 (sent s law w σ a good q c l i)), got s law w σ a good q c l i);
+          entries = λ q' c' g o. other_entry w a q c slot word q' c' g o;
+          here = λ l i. (subst (λ (y : ℕ → ℕ). Kept (record before { send = x.send; queue = y }) (in_at (w q) (σ q) a c)) (λ j g. sym (queue_written w a q c slot word g) j) (word_written before (in_at (w q) (σ q) a c) f can.1.4 can.1.2 (sent s law w σ a good q c l i)), got s law w σ a good q c l i);
         })
 
     keeps_accept : (q c : ℕ) → Can (setup_of s a) (σ a).state (Ring q c AcceptMessage) → Good s law (does_rule (setup_of s a) (σ a).state (Ring q c AcceptMessage) w) (at_one σ a (part_now (Ring q c AcceptMessage)))
@@ -148,7 +145,7 @@ module _ (s : Scenario) (law : IsLawful s) where
           quiet = warm_quiet x can.0.warm;
           away = λ p n pl. far (Store word) a (Counter q c 1) w p pl (λ d. n (sym d));
           counters = λ q' c' g o. other_counter w a q c 1 word q' c' g o;
-          entries = λ q' c' k g o. refl;
+          entries = λ q' c' g o. refl;
           here = λ l i. (subst (λ (y : ℕ). Kept (record before { send = x.send; due = x.asked; accepted = new.accepted; asked = new.asked; delivered = new.delivered; put = y }) (in_at (w q) (σ q) a c)) (sym (counter_written w a q c 1 word)) (accepted_out before (in_at (w q) (σ q) a c) old (wants_notice e.send.send) can.1.1 (sent s law w σ a good q c l i)), accepted_in (out_at (w q) (σ q) a c) (in_at (w a) (σ a) q c) e.send old (got s law w σ a good q c l i));
         })
 
@@ -167,7 +164,7 @@ module _ (s : Scenario) (law : IsLawful s) where
           quiet = warm_quiet _ can.0.warm;
           away = λ p n pl. refl;
           counters = λ q' c' g o. refl;
-          entries = λ q' c' k g o. refl;
+          entries = λ q' c' g o. refl;
           here = λ l i.
               let first : e.pull.counters ≡ None → v ≡ w q (Counter a c 0) = λ d. ap (λ (y : Option ℕ). w q (Counter a c (counters_word y))) d in
               let second : (g : ℕ) → e.pull.counters ≡ Some g → v ≡ w q (Counter a c 1) = λ g d. ap (λ (y : Option ℕ). w q (Counter a c (counters_word y))) d in
@@ -189,7 +186,7 @@ module _ (s : Scenario) (law : IsLawful s) where
           quiet = warm_quiet _ can.0.warm;
           away = λ p n pl. refl;
           counters = λ q' c' g o. refl;
-          entries = λ q' c' k g o. refl;
+          entries = λ q' c' g o. refl;
           here = λ l i. (sent s law w σ a good q c l i, entry_read (out_at (w q) (σ q) a c) (in_at (w a) (σ a) q c) can.1.0 (got s law w σ a good q c l i));
         })
 
@@ -208,7 +205,7 @@ module _ (s : Scenario) (law : IsLawful s) where
           told = takes_release e (σ a).state.script (good.told a low);
           away = λ p n pl. far (Store e.ack.front) a (Counter q c 0) w p pl (λ d. n (sym d));
           counters = λ q' c' g o. other_counter w a q c 0 e.ack.front q' c' g o;
-          entries = λ q' c' k g o. refl;
+          entries = λ q' c' g o. refl;
           here = λ l i. (sent s law w σ a good q c l i, subst (λ (y : ℕ). Kept (out_at (w q) (σ q) a c) (record before { stored = e.ack.front; acked = e.ack.front; get = y })) (sym (counter_written w a q c 0 e.ack.front)) (get_stored (out_at (w q) (σ q) a c) before (got s law w σ a good q c l i)));
         })
 
@@ -218,7 +215,7 @@ module _ (s : Scenario) (law : IsLawful s) where
         let like : (b d : ℕ) → LikeEnd (end_of (σ a).state b d) (end_of (part_now (TakeFlags q)).state b d) = λ b d. at_flagged (LikeEnd (end_of (σ a).state b d)) (told_now (TakeFlags q)) (σ a).state.ends q b d
         (λ on. record { copy = true; request = (end_of (σ a).state b d).owes_message; is = refl })
         (like_self (end_of (σ a).state b d)) in
-        good_like s law w (does_rule (setup_of s a) (σ a).state (TakeFlags q) w) σ a (part_now (TakeFlags q)) good low (λ p b d g. refl) (λ p b d k g. refl) (record { ends = like; records = refl }) (good.told a low)
+        good_like s law w (does_rule (setup_of s a) (σ a).state (TakeFlags q) w) σ a (part_now (TakeFlags q)) good low (λ p b d g. refl) (λ p b d g. refl) (record { ends = like; records = refl }) (good.told a low)
 
     keeps_set_flag : (q c : ℕ) → Good s law (does_rule (setup_of s a) (σ a).state (SetFlag q c) w) (at_one σ a (part_now (SetFlag q c)))
     keeps_set_flag q c =
@@ -226,7 +223,7 @@ module _ (s : Scenario) (law : IsLawful s) where
         let like : (b d : ℕ) → LikeEnd (end_of st b d) (end_of (part_now (SetFlag q c)).state b d) = λ b d. at_end (LikeEnd (end_of st b d)) st.ends q c (record (end_of st q c) { owes_message = false }) b d
         (λ e f. record { copy = (end_of st b d).pull.owed; request = false; is = λ i. record (end_of st (sym e i) (sym f i)) { owes_message = false } })
         (like_self (end_of st b d)) in
-        good_like s law w (does_rule (setup_of s a) (σ a).state (SetFlag q c) w) σ a (part_now (SetFlag q c)) good low (λ p b d g. refl) (λ p b d k g. refl) (record { ends = like; records = refl }) (good.told a low)
+        good_like s law w (does_rule (setup_of s a) (σ a).state (SetFlag q c) w) σ a (part_now (SetFlag q c)) good low (λ p b d g. refl) (λ p b d g. refl) (record { ends = like; records = refl }) (good.told a low)
 
     keeps_failed_counters : (q c : ℕ) → Can (setup_of s a) (σ a).state (Pull q c ReadCounters) → Good s law w (at_one σ a (part_ruled (σ a) (Pull q c ReadCounters) Failed))
     keeps_failed_counters q c can =
@@ -242,7 +239,7 @@ module _ (s : Scenario) (law : IsLawful s) where
           quiet = warm_quiet _ can.0.warm;
           away = λ p n pl. refl;
           counters = λ q' c' g o. refl;
-          entries = λ q' c' k g o. refl;
+          entries = λ q' c' g o. refl;
           here = λ l i. (sent s law w σ a good q c l i, counters_set (out_at (w q) (σ q) a c) (in_at (w a) (σ a) q c) None e.pull.known (owed_after e.pull.counters e.pull.owed) (got s law w σ a good q c l i));
         })
 
@@ -260,7 +257,7 @@ module _ (s : Scenario) (law : IsLawful s) where
           quiet = warm_quiet _ can.0.warm;
           away = λ p n pl. refl;
           counters = λ q' c' g o. refl;
-          entries = λ q' c' k g o. refl;
+          entries = λ q' c' g o. refl;
           here = λ l i. (sent s law w σ a good q c l i, copy_ended (out_at (w q) (σ q) a c) (in_at (w a) (σ a) q c) (got s law w σ a good q c l i));
         })
 

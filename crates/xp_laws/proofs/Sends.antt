@@ -9,11 +9,11 @@ use Rattle.xp_base.specs.declared.step.Answer.TheVariants.{Word, Failed}
 use Rattle.xp_base.specs.declared.answer.SendAnswer.{SendAnswer}
 use Rattle.xp_base.specs.declared.answer.SendAnswer.TheVariants.{Ok as SendOk, TooBig, NotConnected, NoSlot}
 use Rattle.xp_base.specs.declared.link.LinkState.TheVariants.{Connected, Idle}
-use Rattle.xp_base.specs.History.{Act, Begun, Answered, Noticed}
-use Rattle.xp_rules.specs.declared.commands.Command.{Command}
-use Rattle.xp_rules.specs.declared.commands.Command.TheVariants.{Send, Take, Release, Drain}
-use Rattle.xp_rules.specs.declared.log.LogAnswer.{LogAnswer}
-use Rattle.xp_rules.specs.declared.log.LogAnswer.TheVariants.{Send as SendAnswered}
+use Rattle.xp_base.specs.History.{Act, Begun, Answered, Noticed, NoticeKind}
+use Rattle.xp_rules.specs.declared.commands.ChannelCommand.{ChannelCommand}
+use Rattle.xp_rules.specs.declared.commands.ChannelCommand.TheVariants.{Send, Take, Release, Drain}
+use Rattle.xp_script.specs.declared.log.LogAnswer.{LogAnswer}
+use Rattle.xp_script.specs.declared.log.LogAnswer.TheVariants.{Send as SendAnswered}
 use Rattle.xp_rules.specs.declared.rule.RingRule.TheVariants.{ReadGet, WriteEntryWord, AcceptMessage}
 use Rattle.xp_rules.specs.declared.rule.PullRule.{PullRule}
 use Rattle.xp_rules.specs.declared.rule.PullRule.TheVariants.{ReadCounters, ReadEntry}
@@ -128,21 +128,21 @@ pub record Head (st : State) (q c : ℕ) (xs : List Sent) : Type 0 where
   pub stage : Done sent st ⊎ Going sent (end_of st q c) st
 
 -- an end is busy only with the command in progress
-pub record Doing (su : Setup) (st : State) (P : Command → Type 0) : Type 0 where
+pub record Doing (su : Setup) (st : State) (P : ChannelCommand → Type 0) : Type 0 where
   pub doing : st.script.doing ≡ true
   pub undecided : st.script.decided ≡ None
-  pub command : Command
+  pub command : ChannelCommand
   pub now : current su st ≡ Some command
   pub is : P command
 
-abbrev IsSendTo : ℕ → ℕ → Command → Type 0
+abbrev IsSendTo : ℕ → ℕ → ChannelCommand → Type 0
 IsSendTo q c x = SendsTo q c (Some x)
 
-abbrev IsReleaseOf : ℕ → ℕ → Command → Type 0
+abbrev IsReleaseOf : ℕ → ℕ → ChannelCommand → Type 0
 IsReleaseOf q c x = ReleasesAt q c (Some x)
 
 module _ (su : Setup) (st : State) where
-  same_command : {P : Command → Type 0} {Q : Command → Type 0} → (h : Doing su st P) → (k : Doing su st Q) → h.command ≡ k.command
+  same_command : {P : ChannelCommand → Type 0} {Q : ChannelCommand → Type 0} → (h : Doing su st P) → (k : Doing su st Q) → h.command ≡ k.command
   same_command h k = let both : Some h.command ≡ Some k.command = sym h.now ∙ k.now in cc
 
 pub record Busy (su : Setup) (st : State) : Type 0 where
@@ -196,7 +196,7 @@ module _ (su : Setup) (k : Part) (r : Rule) (b : Answer) (calm : must_answer k.s
   new_part = part_ruled k r b
 
   module _ (script : (part_ruled k r b).state.script ≡ k.state.script) (faces : (q c : ℕ) → face (end_of (part_ruled k r b).state q c) ≡ face (end_of k.state q c)) (plain : (q c : ℕ) (y : Sent) → y.partner ≡ q → y.channel ≡ c → Going y (end_of k.state q c) k.state → cond y.wait None (full_told y.partner y.channel y.beginning (Some r) b) ≡ None) where
-    doing_same : (P : Command → Type 0) → Doing su k.state P → Doing su new_part.state P
+    doing_same : (P : ChannelCommand → Type 0) → Doing su k.state P → Doing su new_part.state P
     doing_same P d = record { doing = ap (λ (x : Scripted). x.doing) script ∙ d.doing; undecided = ap (λ (x : Scripted). x.decided) script ∙ d.undecided; command = d.command; now = ap (λ (x : Scripted). slice_get su.script (x.begun - 1)) script ∙ d.now; is = d.is }
 
     stage_same : (q c : ℕ) (y : Sent) → k.state.script.doing ≡ true → y.partner ≡ q → y.channel ≡ c → Done y k.state ⊎ Going y (end_of k.state q c) k.state → Done (stepped y (passed_by k.state (Some r) (kind k.state r) b y.partner y.channel)) new_part.state ⊎ Going (stepped y (passed_by k.state (Some r) (kind k.state r) b y.partner y.channel)) (end_of new_part.state q c) new_part.state
@@ -493,10 +493,10 @@ module _ (su : Setup) (st : State) (xs : List Sent) (idle : st.script.doing ≡ 
   quiet_owes : (q c : ℕ) → (end_of st q c).stored < (end_of st q c).ack.front → ⊥
   quiet_owes q c l = let d = (h.busy.owing q c l).doing in absurd (cc)
 
-  now_begun : (x : Command) → upcoming su st ≡ Some x → current su (begun_with st (Some x)) ≡ Some x
+  now_begun : (x : ChannelCommand) → upcoming su st ≡ Some x → current su (begun_with st (Some x)) ≡ Some x
   now_begun x u = let e : st.script.begun + 1 - 1 ≡ st.script.begun = omega arith in ap (slice_get su.script) e ∙ u
 
-  begun_sending : (x : Command) (q c : ℕ) → upcoming su st ≡ Some x → q ≡ partner_named x → c ≡ channel_named x → IsSome (end_begun (end_named st x) x).send.send → Doing su (begun_with st (Some x)) (IsSendTo q c)
+  begun_sending : (x : ChannelCommand) (q c : ℕ) → upcoming su st ≡ Some x → q ≡ partner_named x → c ≡ channel_named x → IsSome (end_begun (end_named st x) x).send.send → Doing su (begun_with st (Some x)) (IsSendTo q c)
   begun_sending (Send k d payload wait notify) q c u a b i = record {
     doing = refl;
     undecided = started_some (end_of st k d) (record { payload = payload; wait = wait; notify = notify }) (end_of st k d).warm (send_refusal (link_of (end_of st k d)) payload (end_of st k d).send) i (quiet_send k d);
@@ -508,7 +508,7 @@ module _ (su : Setup) (st : State) (xs : List Sent) (idle : st.script.doing ≡ 
   begun_sending (Release k d number) q c u a b i = absurd (quiet_send k d i)
   begun_sending (Drain k d) q c u a b i = absurd (quiet_send k d i)
 
-  begun_owing : (x : Command) (q c : ℕ) → upcoming su st ≡ Some x → q ≡ partner_named x → c ≡ channel_named x → (end_begun (end_named st x) x).stored < (end_begun (end_named st x) x).ack.front → Doing su (begun_with st (Some x)) (IsReleaseOf q c)
+  begun_owing : (x : ChannelCommand) (q c : ℕ) → upcoming su st ≡ Some x → q ≡ partner_named x → c ≡ channel_named x → (end_begun (end_named st x) x).stored < (end_begun (end_named st x) x).ack.front → Doing su (begun_with st (Some x)) (IsReleaseOf q c)
   begun_owing (Send k d payload wait notify) q c u a b l = absurd (cond_both (end_of st k d).warm (record (end_of st k d) { send = send_begun (link_of (end_of st k d)) (record { payload = payload; wait = wait; notify = notify }) (end_of st k d).send }) (end_of st k d) (λ (y : End). y.stored < y.ack.front → ⊥) (λ z j. quiet_owes k d j) (λ z j. quiet_owes k d j) l)
   begun_owing (Take k d wait) q c u a b l = absurd (quiet_owes k d l)
   begun_owing (Drain k d) q c u a b l = absurd (quiet_owes k d l)
@@ -525,7 +525,7 @@ module _ (su : Setup) (st : State) (xs : List Sent) (idle : st.script.doing ≡ 
     abbrev sending_end : End
     sending_end = end_of st q c
 
-    abbrev sending_now : Command
+    abbrev sending_now : ChannelCommand
     sending_now = Send q c payload wait notify
 
     abbrev sent_now : Sent
@@ -566,7 +566,7 @@ module _ (su : Setup) (st : State) (xs : List Sent) (idle : st.script.doing ≡ 
     started_head : Head started q c (begun_send st (Some sending_now) xs)
     started_head = record { sent = sent_now; earlier = xs; sends_are = refl; partner = refl; channel = refl; unanswered = refl; number = refl; stage = started_stage sending_end.warm (ltb sending_end.send.limit (length payload)) refl refl }
 
-  each_begun : (x : Command) → Each (begun_send st (Some x) xs)
+  each_begun : (x : ChannelCommand) → Each (begun_send st (Some x) xs)
   each_begun (Send q c payload wait notify) zero x e a f = let g : None ≡ Some a = ap (λ (o : Option Sent). answer_in o) e ∙ f in absurd (cc)
     where
       answer_in : Option Sent → Option LogAnswer
@@ -577,7 +577,7 @@ module _ (su : Setup) (st : State) (xs : List Sent) (idle : st.script.doing ≡ 
   each_begun (Release q c number) n x e a f = h.each n x e a f
   each_begun (Drain q c) n x e a f = h.each n x e a f
 
-  begun_ok : (x : Command) → upcoming su st ≡ Some x → SendsOf su (begun_with st (Some x)) (begun_send st (Some x) xs)
+  begun_ok : (x : ChannelCommand) → upcoming su st ≡ Some x → SendsOf su (begun_with st (Some x)) (begun_send st (Some x) xs)
   begun_ok x u = record {
     busy = record {
       sending = λ q c. at_end (λ (y : End). IsSome y.send.send → Doing su (begun_with st (Some x)) (IsSendTo q c)) st.ends (partner_named x) (channel_named x) (end_begun (end_named st x) x) q c (λ a b. begun_sending x q c u a b) (λ i. absurd (quiet_send q c i));
@@ -586,14 +586,14 @@ module _ (su : Setup) (st : State) (xs : List Sent) (idle : st.script.doing ≡ 
     head = λ d q c payload wait notify e.
         let both : Some x ≡ Some (Send q c payload wait notify) = sym (now_begun x u) ∙ e in
         let same : x ≡ Send q c payload wait notify = cc in
-        subst (λ (y : Command). Head (begun_with st (Some y)) q c (begun_send st (Some y) xs)) (sym same) (started_head q c payload wait notify);
+        subst (λ (y : ChannelCommand). Head (begun_with st (Some y)) q c (begun_send st (Some y) xs)) (sym same) (started_head q c payload wait notify);
     each = each_begun x;
   }
 
   begun_none : SendsOf su (begun_with st None) (begun_send st None xs)
   begun_none = record { busy = h.busy; head = λ d q c payload wait notify e. absurd (cc); each = h.each }
 
-  begun_any : (o : Option Command) → upcoming su st ≡ o → SendsOf su (begun_with st o) (begun_send st o xs)
+  begun_any : (o : Option ChannelCommand) → upcoming su st ≡ o → SendsOf su (begun_with st o) (begun_send st o xs)
   begun_any None u = begun_none
   begun_any (Some x) u = begun_ok x u
 
@@ -605,7 +605,7 @@ answered_face e = take_face e.pull.empty
     take_face None = refl
     take_face (Some put) = refl
 
-none_due : (su : Setup) (st : State) (P : Command → Type 0) → ((x : Command) → P x → due_to st (Some x) ≡ None) → Doing su st P → due su st ≡ None
+none_due : (su : Setup) (st : State) (P : ChannelCommand → Type 0) → ((x : ChannelCommand) → P x → due_to st (Some x) ≡ None) → Doing su st P → due su st ≡ None
 none_due su st P f d = (λ i. cond (d.doing i) (decided_or (d.undecided i) (due_to st (d.now i))) None) ∙ f d.command d.is
 
 pub is_doing : (b : Bool) (o : Option LogAnswer) → IsSome (cond b o None) → b ≡ true
@@ -631,7 +631,7 @@ module _ (su : Setup) (st : State) (xs : List Sent) (some : IsSome (due su st)) 
   each_cons y ys new old zero x e a f = let d : y ≡ x = cc in subst (λ (z : Sent). Caused z a) d (new a (ap (λ (z : Sent). z.answer) d ∙ f))
   each_cons y ys new old (suc n) x e a f = old n x e a f
 
-  each_answered : (o : Option Command) → current su st ≡ o → Each (answered_send o (due su st) xs)
+  each_answered : (o : Option ChannelCommand) → current su st ≡ o → Each (answered_send o (due su st) xs)
   each_answered None e = h.each
   each_answered (Some (Take q c wait)) e = h.each
   each_answered (Some (Release q c number)) e = h.each
@@ -643,14 +643,14 @@ module _ (su : Setup) (st : State) (xs : List Sent) (some : IsSome (due su st)) 
       subst Each (sym (ap (answered_send (Some (Send q c payload wait notify)) (due su st)) o.sends_are)) (each_cons (record o.sent { answer = due su st }) o.earlier (answered_caused q c payload wait notify e o) (λ n x f a g. old (suc n) x f a g))
 
 -- a notice is given
-module _ (su : Setup) (k : Part) (q0 c0 : ℕ) (h : Sends su k) where
+module _ (su : Setup) (k : Part) (q0 c0 number : ℕ) (kind : NoticeKind) (h : Sends su k) where
   abbrev noticed : Part
-  noticed = part_act su k (Noticed q0 c0)
+  noticed = part_act su k (Noticed q0 c0 number kind)
 
   noticed_face : (q c : ℕ) → face (end_of noticed.state q c) ≡ face (end_of k.state q c)
   noticed_face q c = stays_end face k.state.ends q0 c0 (end_noticed (end_of k.state q0 c0)) q c refl
 
-  still_doing : (P : Command → Type 0) → Doing su k.state P → Doing su noticed.state P
+  still_doing : (P : ChannelCommand → Type 0) → Doing su k.state P → Doing su noticed.state P
   still_doing P d = record { doing = d.doing; undecided = d.undecided; command = d.command; now = d.now; is = d.is }
 
   stage_noticed : (q c : ℕ) (y : Sent) → Done y k.state ⊎ Going y (end_of k.state q c) k.state → Done y noticed.state ⊎ Going y (end_of noticed.state q c) noticed.state
@@ -690,4 +690,4 @@ sends_act su k Answered may h = record {
   head = λ d q c payload wait notify e. absurd (cc);
   each = each_answered su k.state k.sends may h (current su k.state) refl;
 }
-sends_act su k (Noticed q c) may h = sends_noticed su k q c h
+sends_act su k (Noticed q c number kind) may h = sends_noticed su k q c number kind h

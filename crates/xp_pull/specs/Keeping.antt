@@ -1,5 +1,6 @@
 -- What a receiving side keeps true of its numbers, and what it leaves as it is where a copy comes to nothing.
 use Rattle.std.specs.Prelude.{◌≡◌, ◌+◌, ◌<◌, ◌≤◌, false, [], length, None}
+use Rattle.xp_base.specs.declared.layout.TheConstants.{LINE_WORDS}
 use Rattle.xp_rules.specs.Setup.{IsSize}
 use Rattle.xp_rules.specs.Pulling.{Pulling}
 
@@ -9,7 +10,7 @@ pub record IsKept (x : Pulling) : Type 0 where
   pub cached : length x.cache + x.taken ≡ x.pulled
   pub put : x.pulled ≤ x.pulled_put
   pub room : x.pulled_put ≤ x.taken + x.entries
-  pub copied : length x.copied < 16
+  pub copied : length x.copied < LINE_WORDS
   pub going : 0 < length x.copied → x.pulled < x.pulled_put
 
 -- the messages are as before

@@ -4,8 +4,6 @@
 mod cache;
 mod copied;
 pub mod side;
-#[cfg(test)]
-mod tests;
 
 pub use xp_base::answer::TakeAnswer;
 pub use xp_base::link::LinkState;

@@ -1,6 +1,7 @@
 // The receiving side of a channel, as a machine: it loads the partner's counters and copies its entries, whose bodies it caches until
 // they are taken.
 ghost use Rattle.std.specs.Prelude.{◌≡◌, ℕ, ◌+◌, ◌-◌, ◌<◌, ◌≤◌, ◌^◌, ◌↔◌, ◌||◌, ◌++◌, ◌∷◌, [], if◌then◌else◌, nat_eq, length, IfSome, IfErr, IsSome, Some, None, is_some, true, false};
+ghost use Rattle.xp_base.specs.declared.layout.TheConstants.{LINE_WORDS};
 ghost use Rattle.xp_base.specs.Places.{index_of};
 ghost use Rattle.xp_rules.specs.Setup.{IsSize};
 ghost use Rattle.xp_rules.specs.Pulling.{new_pulling, take_refusal, take_begun, take_due, take_answered, pull_can, pull_after, pull_fault, pull_failed, pull_place, pull_word, get_loaded, put_loaded, counters_fault, entry_after, entry_fault};
@@ -14,6 +15,7 @@ use std::marker::Model;
 use xp_base::answer::TakeAnswer;
 use xp_base::body::Body;
 use xp_base::ids::{Channel, PartId};
+use xp_base::layout::{LENGTH_MARK, LINE_WORDS};
 use xp_base::link::LinkState;
 use xp_base::places::{counters, entry};
 use xp_base::reason::Reason;
@@ -197,7 +199,7 @@ impl PullSide {
     /// Which load of its copy comes next.
     pub fn word(&self, rule: PullRule) -> u32
         ensures value { result ≡ pull_word self.now rule }
-        ensures range { result < 16 }
+        ensures range { result < LINE_WORDS }
     {
         match rule {
             PullRule::ReadCounters => { if self.counters.is_some() { 1 } else { 0 } }
@@ -303,13 +305,13 @@ impl PullSide {
     // A word of the next entry is answered; with the last one the body is cached, if the entry is as it has to be.
     fn copy(&mut self, word: u64) -> Option<Reason>
         requires there { self.old.pulled < self.old.pulled_put }
-        requires room { length self.old.copied < 16 }
+        requires room { length self.old.copied < LINE_WORDS }
         ensures side { self.new ≡ entry_after (self.old.copied ++ word ∷ []) self.old }
-        ensures fault { result ≡ (if nat_eq (length self.old.copied + 1) 16 then entry_fault self.old (self.old.copied ++ word ∷ []) else None) }
+        ensures fault { result ≡ (if nat_eq (length self.old.copied + 1) LINE_WORDS then entry_fault self.old (self.old.copied ++ word ∷ []) else None) }
         ensures kept { IfSome result (λ reason. KeepsMessages self.old self.new) }
     {
         self.copied.push(word);
-        if self.copied.len() < 16 {
+        if self.copied.len() < LINE_WORDS as u8 {
             return None;
         }
         let fault = entry_fault_in(self.copied.words(), self.limit, self.pulled);
@@ -466,13 +468,13 @@ impl PullSide {
 
 // What is wrong with the words of an entry of the next number: its length, or its number.
 fn entry_fault_in(words: &[u64], limit: u16, pulled: u64) -> Option<Reason>
-    requires { length words.now ≡ 16 }
+    requires { length words.now ≡ LINE_WORDS }
     ensures value { result ≡ fault_in limit pulled words.now }
     ensures length { result ≡ None → IsFitting limit words.now }
 {
     let length = words[0];
     let number = words[1];
-    if length < 65_536 || length > 65_536 + limit as u64 {
+    if length < LENGTH_MARK || length > LENGTH_MARK + limit as u64 {
         return Some(Reason::BadLength { word: length });
     }
     if number != pulled {

@@ -1,6 +1,8 @@
 // The sending side of a channel, as a machine: it stores a message's words in the next free entry, and then put.
 ghost use Rattle.std.specs.Prelude.{◌≡◌, ℕ, ◌<◌, ◌≤◌, ◌+◌, ◌-◌, ◌^◌, ◌↔◌, if◌then◌else◌, length, IfSome, IsSome, Some, None, bit_and, is_some};
 ghost use Rattle.std.specs.Int.{trailing_ones, w16};
+ghost use Rattle.xp_base.specs.declared.body.TheConstants.{SEND_BYTES};
+ghost use Rattle.xp_base.specs.declared.layout.TheConstants.{LINE_WORDS};
 ghost use Rattle.xp_base.specs.Places.{index_of};
 ghost use Rattle.xp_rules.specs.Setup.{IsSize};
 ghost use Rattle.xp_rules.specs.Sending.{new_sending, send_refusal, send_begun, get_known, is_bad_get, is_full, payload_of, ring_can, ring_after, ring_own, ring_place, ring_kind, ring_mark};
@@ -86,7 +88,7 @@ impl SendSide {
         notify: bool,
     ) -> Option<SendAnswer>
         requires put { self.old.put < 2 ^ 64 - 1 }
-        requires payload { length payload.now ≤ 4096 }
+        requires payload { length payload.now ≤ SEND_BYTES }
         ensures answer { result ≡ send_refusal state payload.now self.old }
         ensures side { self.new ≡ send_begun state (record { payload = payload.now; wait = wait; notify = notify }) self.old }
     {
@@ -112,7 +114,7 @@ impl SendSide {
     }
 
     /// The step that the send in progress makes next: it loads the partner's get until there is room by one that was loaded in
-    /// this connection, then stores the 16 words of its entry, and then put.
+    /// this connection, then stores the words of its entry, and then put.
     pub fn plan(&self) -> Option<RingRule>
         ensures value { result ≡ side_plan self.now }
         ensures can { IfSome result (λ rule. ring_can self.now rule) }
@@ -322,7 +324,7 @@ impl SendSide {
 fn missing_word(stored: u16) -> u8
     requires { stored < 65535 }
     ensures value { result ≡ trailing_ones w16 stored }
-    ensures range { result < 16 }
+    ensures range { result < LINE_WORDS }
     ensures missing { bit_and stored (2 ^ result) ≡ 0 }
 {
     stored.trailing_ones() as u8

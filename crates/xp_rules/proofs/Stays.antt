@@ -5,10 +5,10 @@ use Rattle.xp_base.specs.declared.step.Answer.{Answer}
 use Rattle.xp_base.specs.declared.step.Answer.TheVariants.{Word, Failed}
 use Rattle.xp_base.specs.declared.answer.SendAnswer.{SendAnswer}
 use Rattle.xp_base.specs.History.{Act, Begun, Answered, Noticed, Marked, Turn}
-use Rattle.xp_rules.specs.declared.commands.Command.{Command}
-use Rattle.xp_rules.specs.declared.commands.Command.TheVariants.{Send, Take, Release, Drain}
-use Rattle.xp_rules.specs.declared.log.LogAnswer.{LogAnswer}
-use Rattle.xp_rules.specs.declared.log.LogAnswer.TheVariants.{Send as SendAnswered}
+use Rattle.xp_rules.specs.declared.commands.ChannelCommand.{ChannelCommand}
+use Rattle.xp_rules.specs.declared.commands.ChannelCommand.TheVariants.{Send, Take, Release, Drain}
+use Rattle.xp_script.specs.declared.log.LogAnswer.{LogAnswer}
+use Rattle.xp_script.specs.declared.log.LogAnswer.TheVariants.{Send as SendAnswered}
 use Rattle.xp_rules.specs.declared.rule.PullRule.{PullRule}
 use Rattle.xp_rules.specs.declared.rule.PullRule.TheVariants.{ReadCounters, ReadEntry}
 use Rattle.xp_rules.specs.declared.rule.Rule.{Rule}
@@ -23,7 +23,7 @@ use Rattle.xp_rules.specs.Runs.{after_ruled, after_step, after_turn, state_after
 use Rattle.xp_rules.proofs.Ends.{at_changed, stays_end, stays_flagged}
 
 -- a fact of each end after the command in progress was answered
-pub at_answered : (P : End → Type 0) → ((e : End) → P e → P (end_answered e)) → (st : State) (o : Option Command) (a : Option LogAnswer) (q c : ℕ) → P (end_of st q c) → P (end_at (ends_answered st o a) q c)
+pub at_answered : (P : End → Type 0) → ((e : End) → P e → P (end_answered e)) → (st : State) (o : Option ChannelCommand) (a : Option LogAnswer) (q c : ℕ) → P (end_of st q c) → P (end_at (ends_answered st o a) q c)
 at_answered P more st (Some (Take k d wait)) None q c h = at_changed P st.ends k d (end_answered (end_of st k d)) q c (more (end_of st k d)) h
 at_answered P more st (Some (Take k d wait)) (Some a) q c h = h
 at_answered P more st (Some (Send k d payload wait notify)) a q c h = h
@@ -32,18 +32,18 @@ at_answered P more st (Some (Drain k d)) a q c h = h
 at_answered P more st None a q c h = h
 
 -- what acts leave at each end
-pub answers_stay : {B : Type 0} (f : End → B) → ((e : End) → f (end_answered e) ≡ f e) → (st : State) (o : Option Command) (a : Option LogAnswer) (q c : ℕ) → f (end_at (ends_answered st o a) q c) ≡ f (end_of st q c)
+pub answers_stay : {B : Type 0} (f : End → B) → ((e : End) → f (end_answered e) ≡ f e) → (st : State) (o : Option ChannelCommand) (a : Option LogAnswer) (q c : ℕ) → f (end_at (ends_answered st o a) q c) ≡ f (end_of st q c)
 answers_stay f answered st o a q c = at_answered (λ (y : End). f y ≡ f (end_of st q c)) (λ e h. answered e ∙ h) st o a q c refl
 
-begins_stay : {B : Type 0} (f : End → B) → ((e : End) (x : Command) → f (end_begun e x) ≡ f e) → (st : State) (o : Option Command) (q c : ℕ) → f (end_of (begun_with st o) q c) ≡ f (end_of st q c)
+begins_stay : {B : Type 0} (f : End → B) → ((e : End) (x : ChannelCommand) → f (end_begun e x) ≡ f e) → (st : State) (o : Option ChannelCommand) (q c : ℕ) → f (end_of (begun_with st o) q c) ≡ f (end_of st q c)
 begins_stay f begun st None q c = refl
 begins_stay f begun st (Some x) q c = stays_end f st.ends (partner_named x) (channel_named x) (end_begun (end_named st x) x) q c (begun (end_named st x) x)
 
-module _ {B : Type 0} (f : End → B) (begun : (e : End) (x : Command) → f (end_begun e x) ≡ f e) (answered : (e : End) → f (end_answered e) ≡ f e) (noticed : (e : End) → f (end_noticed e) ≡ f e) where
+module _ {B : Type 0} (f : End → B) (begun : (e : End) (x : ChannelCommand) → f (end_begun e x) ≡ f e) (answered : (e : End) → f (end_answered e) ≡ f e) (noticed : (e : End) → f (end_noticed e) ≡ f e) where
   pub act_stays : (s : Setup) (st : State) (a : Act) (q c : ℕ) → f (end_of (after_act s st a) q c) ≡ f (end_of st q c)
   act_stays s st Begun q c = begins_stay f begun st (upcoming s st) q c
   act_stays s st Answered q c = answers_stay f answered st (current s st) st.script.decided q c
-  act_stays s st (Noticed k d) q c = stays_end f st.ends k d (end_noticed (end_of st k d)) q c (noticed (end_of st k d))
+  act_stays s st (Noticed k d number kind) q c = stays_end f st.ends k d (end_noticed (end_of st k d)) q c (noticed (end_of st k d))
 
   pub acts_stay : (s : Setup) (st : State) (acts : List Act) (q c : ℕ) → f (end_of (after_acts s st acts) q c) ≡ f (end_of st q c)
   acts_stay s st [] q c = refl
@@ -52,11 +52,11 @@ module _ {B : Type 0} (f : End → B) (begun : (e : End) (x : Command) → f (en
 -- acts leave which partners are to be deactivated
 pub act_engages : (s : Setup) (st : State) (a : Act) → (after_act s st a).engages ≡ st.engages
 act_engages s st Begun = begun (upcoming s st) where
-  begun : (o : Option Command) → (begun_with st o).engages ≡ st.engages
+  begun : (o : Option ChannelCommand) → (begun_with st o).engages ≡ st.engages
   begun None = refl
   begun (Some x) = refl
 act_engages s st Answered = refl
-act_engages s st (Noticed q c) = refl
+act_engages s st (Noticed q c number kind) = refl
 
 -- a rule leaves how many commands were begun, and whether one is in progress
 module _ {B : Type 0} (f : Scripted → B) (decides : (x : Scripted) (a : LogAnswer) → f (record x { decided = Some a }) ≡ f x) where
@@ -111,7 +111,7 @@ sending_warm : (e new : End) (b : Bool) → new.warm ≡ e.warm → (cond b new 
 sending_warm e new true h = h
 sending_warm e new false h = refl
 
-begun_warm : (e : End) (x : Command) → (end_begun e x).warm ≡ e.warm
+begun_warm : (e : End) (x : ChannelCommand) → (end_begun e x).warm ≡ e.warm
 begun_warm e (Send q c payload wait notify) = sending_warm e _ e.warm refl
 begun_warm e (Take q c wait) = refl
 begun_warm e (Release q c number) = refl

@@ -8,11 +8,11 @@ use Rattle.xp_base.specs.declared.answer.ReleaseAnswer.TheVariants.{Ok as Releas
 use Rattle.xp_base.specs.declared.answer.DrainAnswer.TheVariants.{Ok as DrainOk, Disconnecting as DrainDisconnecting, NotConnected as DrainNotConnected}
 use Rattle.xp_base.specs.declared.link.LinkState.{LinkState}
 use Rattle.xp_base.specs.declared.link.LinkState.TheVariants.{Idle, Opening, Connected, Closing}
-use Rattle.xp_base.specs.History.{Act, Begun, Answered, Noticed}
-use Rattle.xp_rules.specs.declared.commands.Command.{Command}
-use Rattle.xp_rules.specs.declared.commands.Command.TheVariants.{Send, Take, Release, Drain}
-use Rattle.xp_rules.specs.declared.log.LogAnswer.{LogAnswer}
-use Rattle.xp_rules.specs.declared.log.LogAnswer.TheVariants.{Send as SendAnswered, Take as TakeAnswered, Release as ReleaseAnswered, Drain as DrainAnswered}
+use Rattle.xp_base.specs.History.{Act, Begun, Answered, Noticed, Delivered}
+use Rattle.xp_rules.specs.declared.commands.ChannelCommand.{ChannelCommand}
+use Rattle.xp_rules.specs.declared.commands.ChannelCommand.TheVariants.{Send, Take, Release, Drain}
+use Rattle.xp_script.specs.declared.log.LogAnswer.{LogAnswer}
+use Rattle.xp_script.specs.declared.log.LogAnswer.TheVariants.{Send as SendAnswered, Take as TakeAnswered, Release as ReleaseAnswered, Drain as DrainAnswered}
 use Rattle.xp_rules.specs.declared.setup.Setup.{Setup}
 use Rattle.xp_rules.specs.Sending.{send_refusal, send_begun}
 use Rattle.xp_rules.specs.Pulling.{take_refusal, take_begun, take_due, take_answered}
@@ -20,10 +20,10 @@ use Rattle.xp_rules.specs.Releasing.{Releasing, release_refusal, release_begun, 
 use Rattle.xp_rules.specs.State.{State, Scripted, End, end_of, set_end, link_of}
 
 -- the command that comes next, and the one that was begun last
-abbrev pub upcoming : Setup → State → Option Command
+abbrev pub upcoming : Setup → State → Option ChannelCommand
 upcoming s st = slice_get s.script st.script.begun
 
-abbrev pub current : Setup → State → Option Command
+abbrev pub current : Setup → State → Option ChannelCommand
 current s st = slice_get s.script (st.script.begun - 1)
 
 -- answers, as the log has them
@@ -53,7 +53,7 @@ drain_refusal Idle = Some (DrainAnswered DrainNotConnected)
 drain_refusal Opening = Some (DrainAnswered DrainNotConnected)
 drain_refusal Connected = None
 
-abbrev pub decided_for : End → Command → Option LogAnswer
+abbrev pub decided_for : End → ChannelCommand → Option LogAnswer
 decided_for e (Send q c payload wait notify) = refusal_of_send e payload
 decided_for e (Take q c wait) = take_told (take_refusal (link_of e))
 decided_for e (Release q c number) = release_told (release_refusal (link_of e) number e.ack) number e.ack
@@ -66,29 +66,29 @@ end_sending e payload wait notify = if e.warm then record e { send = send_begun 
 abbrev pub end_releasing : End → ℕ → End
 end_releasing e number = record e { ack = release_begun (link_of e) number e.ack; releasing = not (nat_eq e.ack.front (release_begun (link_of e) number e.ack).front) }
 
-abbrev pub end_begun : End → Command → End
+abbrev pub end_begun : End → ChannelCommand → End
 end_begun e (Send q c payload wait notify) = end_sending e payload wait notify
 end_begun e (Take q c wait) = record e { pull = take_begun (link_of e) wait e.pull }
 end_begun e (Release q c number) = end_releasing e number
 end_begun e (Drain q c) = e
 
-abbrev pub partner_named : Command → ℕ
+abbrev pub partner_named : ChannelCommand → ℕ
 partner_named (Send q c payload wait notify) = q
 partner_named (Take q c wait) = q
 partner_named (Release q c number) = q
 partner_named (Drain q c) = q
 
-abbrev pub channel_named : Command → ℕ
+abbrev pub channel_named : ChannelCommand → ℕ
 channel_named (Send q c payload wait notify) = c
 channel_named (Take q c wait) = c
 channel_named (Release q c number) = c
 channel_named (Drain q c) = c
 
-abbrev pub end_named : State → Command → End
+abbrev pub end_named : State → ChannelCommand → End
 end_named st x = end_of st (partner_named x) (channel_named x)
 
 -- a command is begun
-abbrev pub begun_with : State → Option Command → State
+abbrev pub begun_with : State → Option ChannelCommand → State
 begun_with st None = st
 begun_with st (Some x) = record st {
   script = record { begun = st.script.begun + 1; doing = true; decided = decided_for (end_named st x) x };
@@ -100,7 +100,7 @@ abbrev pub drained : End → Option LogAnswer
 drained e = if e.warm && nat_eq e.send.known e.send.put then Some (DrainAnswered DrainOk) else None
 
 -- the answer that is due: the one that was decided, or what a take or a drain in progress finds
-abbrev pub due_to : State → Option Command → Option LogAnswer
+abbrev pub due_to : State → Option ChannelCommand → Option LogAnswer
 due_to st None = None
 due_to st (Some (Send q c payload wait notify)) = None
 due_to st (Some (Take q c wait)) = take_told (take_due (end_of st q c).pull)
@@ -125,7 +125,7 @@ held_after (Some put) x = x
 abbrev pub end_answered : End → End
 end_answered e = record e { pull = take_answered e.pull.empty e.pull; ack = held_after e.pull.empty e.ack }
 
-abbrev pub ends_answered : State → Option Command → Option LogAnswer → List (List End)
+abbrev pub ends_answered : State → Option ChannelCommand → Option LogAnswer → List (List End)
 ends_answered st (Some (Take q c wait)) None = set_end st.ends q c (end_answered (end_of st q c))
 ends_answered st x a = st.ends
 
@@ -147,7 +147,7 @@ end_noticed e = record e { asked = first_told e.asked }
 abbrev pub after_act : Setup → State → Act → State
 after_act s st Begun = begun_with st (upcoming s st)
 after_act s st Answered = record st { script = script_answered st.script; ends = ends_answered st (current s st) st.script.decided }
-after_act s st (Noticed q c) = record st { ends = set_end st.ends q c (end_noticed (end_of st q c)) }
+after_act s st (Noticed q c number kind) = record st { ends = set_end st.ends q c (end_noticed (end_of st q c)) }
 
 abbrev pub after_acts : Setup → State → List Act → State
 after_acts s st [] = st
@@ -157,7 +157,7 @@ after_acts s st (a ∷ more) = after_acts s (after_act s st a) more
 abbrev pub MayAct : Setup → State → Act → Type 0
 MayAct s st Begun = (st.script.doing ≡ false) × (st.script.begun < length s.script)
 MayAct s st Answered = IsSome (due s st)
-MayAct s st (Noticed q c) = IsSome (notice_due (end_of st q c))
+MayAct s st (Noticed q c number kind) = (notice_due (end_of st q c) ≡ Some number) × (kind ≡ Delivered)
 
 abbrev pub MayActs : Setup → State → List Act → Type 0
 MayActs s st [] = Unit {0}

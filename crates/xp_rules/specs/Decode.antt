@@ -1,11 +1,12 @@
 -- Which rule a step follows: by whose word it is, what it does with it, where it stands and which copy it belongs to.
-use Rattle.std.specs.Prelude.{ℕ, zero, suc, ◌+◌, Bool, true, false, if◌then◌else◌, ◌==◌, Option, Some, None}
+use Rattle.std.specs.Prelude.{ℕ, zero, suc, ◌+◌, ◌%◌, Bool, true, false, if◌then◌else◌, ◌==◌, Option, Some, None}
 use Rattle.xp_base.specs.declared.step.Op.{Op}
 use Rattle.xp_base.specs.declared.step.OpKind.{OpKind}
 use Rattle.xp_base.specs.declared.step.OpKind.TheVariants.{Load, Store, Or, Take}
 use Rattle.xp_base.specs.declared.step.CopyMark.{CopyMark}
 use Rattle.xp_base.specs.declared.step.CopyKind.{CopyKind}
 use Rattle.xp_base.specs.declared.step.CopyKind.TheVariants.{Get, Counters, Entries}
+use Rattle.xp_base.specs.declared.layout.TheConstants.{LINE_WORDS}
 use Rattle.xp_base.specs.Places.{Place, Counter, Entry, Flag, place_of}
 use Rattle.xp_rules.specs.declared.rule.RingRule.TheVariants.{ReadGet, WriteEntryWord, AcceptMessage}
 use Rattle.xp_rules.specs.declared.rule.PullRule.TheVariants.{ReadCounters, ReadEntry}
@@ -16,7 +17,7 @@ use Rattle.xp_rules.specs.Flags.{message_flag}
 
 -- a store in an own word
 abbrev pub own_store : Place → Option Rule
-own_store (Entry q c k f) = Some (Ring q c (WriteEntryWord f))
+own_store (Entry q c w) = Some (Ring q c (WriteEntryWord (w % LINE_WORDS)))
 own_store (Counter q c f) = if f == 1 then Some (Ring q c AcceptMessage) else Some (Acknowledge q c)
 own_store pl = None
 
@@ -38,7 +39,7 @@ or_at q v pl = None
 abbrev pub load_at : ℕ → CopyKind → Place → Option Rule
 load_at q Get (Counter p c f) = Some (Ring q c ReadGet)
 load_at q Counters (Counter p c f) = Some (Pull q c ReadCounters)
-load_at q Entries (Entry p c k f) = Some (Pull q c ReadEntry)
+load_at q Entries (Entry p c w) = Some (Pull q c ReadEntry)
 load_at q k pl = None
 
 abbrev pub load_marked : ℕ → Option CopyMark → Place → Option Rule

@@ -15,7 +15,7 @@ abbrev pub message_flag : ℕ → ℕ
 message_flag c = 2 ^ message_bit c
 
 abbrev pub message_flags : ℕ
-message_flags = 538976288
+message_flags = message_flag 0 + message_flag 1 + message_flag 2 + message_flag 3
 
 -- a flag word has message requests alone: each channel that is connected is so from the opening on, so that no other flag is sent
 abbrev pub is_bad_flags : ℕ → Bool

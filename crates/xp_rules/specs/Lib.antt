@@ -1,3 +1,4 @@
+pub mod Commands
 pub mod Setup
 pub mod Records
 pub mod Sending

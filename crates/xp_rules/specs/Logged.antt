@@ -4,13 +4,13 @@ use Rattle.xp_base.specs.declared.step.Answer.{Answer}
 use Rattle.xp_base.specs.declared.step.Answer.TheVariants.{Word, Failed}
 use Rattle.xp_base.specs.declared.answer.TakeAnswer.TheVariants.{Taken}
 use Rattle.xp_base.specs.History.{Act, Begun, Answered, Noticed, Marked, Turn}
-use Rattle.xp_rules.specs.declared.commands.Command.{Command}
-use Rattle.xp_rules.specs.declared.commands.Command.TheVariants.{Send, Take, Release, Drain}
-use Rattle.xp_rules.specs.declared.log.Verb.{Verb}
-use Rattle.xp_rules.specs.declared.log.Verb.TheVariants.{Send as SendVerb, Take as TakeVerb, Release as ReleaseVerb, Drain as DrainVerb}
-use Rattle.xp_rules.specs.declared.log.LogAnswer.{LogAnswer}
-use Rattle.xp_rules.specs.declared.log.LogAnswer.TheVariants.{Take as TakeAnswered}
-use Rattle.xp_rules.specs.declared.log.Entry.{Entry}
+use Rattle.xp_rules.specs.declared.commands.ChannelCommand.{ChannelCommand}
+use Rattle.xp_rules.specs.declared.commands.ChannelCommand.TheVariants.{Send, Take, Release, Drain}
+use Rattle.xp_script.specs.declared.log.Verb.{Verb}
+use Rattle.xp_script.specs.declared.log.Verb.TheVariants.{Send as SendVerb, Take as TakeVerb, Release as ReleaseVerb, Drain as DrainVerb}
+use Rattle.xp_script.specs.declared.log.LogAnswer.{LogAnswer}
+use Rattle.xp_script.specs.declared.log.LogAnswer.TheVariants.{Take as TakeAnswered}
+use Rattle.xp_script.specs.declared.log.Entry.{Entry}
 use Rattle.xp_rules.specs.declared.rule.RingRule.TheVariants.{AcceptMessage}
 use Rattle.xp_rules.specs.declared.rule.Rule.{Rule}
 use Rattle.xp_rules.specs.declared.rule.Rule.TheVariants.{Ring, Acknowledge}
@@ -27,14 +27,14 @@ pub record Logged : Type 0 where
   pub entries : List Entry
   pub records : List Recorded
 
-abbrev pub verb_of : Command → Verb
+abbrev pub verb_of : ChannelCommand → Verb
 verb_of (Send q c payload wait notify) = SendVerb
 verb_of (Take q c wait) = TakeVerb
 verb_of (Release q c number) = ReleaseVerb
 verb_of (Drain q c) = DrainVerb
 
 -- the entry of a command, the number-th from 1 of the script
-abbrev pub begun_entry : ℕ → Option Command → List Entry
+abbrev pub begun_entry : ℕ → Option ChannelCommand → List Entry
 begun_entry number None = []
 begun_entry number (Some x) = record { boot = 1; number = number; verb = verb_of x; answer = None } ∷ []
 
@@ -45,7 +45,7 @@ last_answered (x ∷ []) a = record x { answer = a } ∷ []
 last_answered (x ∷ y ∷ more) a = x ∷ last_answered (y ∷ more) a
 
 -- a message that was taken stands in the record of its end
-abbrev pub records_taken : State → Option Command → Option LogAnswer → List Recorded → List Recorded
+abbrev pub records_taken : State → Option ChannelCommand → Option LogAnswer → List Recorded → List Recorded
 records_taken st (Some (Take q c wait)) (Some (TakeAnswered (Taken number body))) rs = update_at rs (end_of st q c).record_number (has_taken body)
 records_taken st x a rs = rs
 
@@ -57,7 +57,7 @@ records_noticed e (Some number) rs = update_at rs e.record_number (has_delivered
 abbrev pub logged_act : Setup → State → Act → Logged → Logged
 logged_act s st Begun g = record g { entries = g.entries ++ begun_entry (st.script.begun + 1) (upcoming s st) }
 logged_act s st Answered g = record { entries = last_answered g.entries (due s st); records = records_taken st (current s st) (due s st) g.records }
-logged_act s st (Noticed q c) g = record g { records = records_noticed (end_of st q c) (notice_due (end_of st q c)) g.records }
+logged_act s st (Noticed q c number kind) g = record g { records = records_noticed (end_of st q c) (notice_due (end_of st q c)) g.records }
 
 abbrev pub logged_acts : Setup → State → List Act → Logged → Logged
 logged_acts s st [] g = g

@@ -1,7 +1,7 @@
 -- What the rules promise of every history: messages are taken as they were accepted, no word is touched without leave,
 -- an entry is written anew only after it was acknowledged, each send is answered for its first cause, what is told as delivered was acknowledged,
 -- and nothing that is read is broken.
-use Rattle.std.specs.Prelude.{◌≡◌, ℕ, ◌+◌, ◌-◌, ◌%◌, ◌<◌, ◌≤◌, Bool, true, false, ◌&&◌, if◌then◌else◌, nat_lt, nat_eq, List, [], ◌∷◌, ◌++◌, length, slice_get, Option, Some, None}
+use Rattle.std.specs.Prelude.{◌≡◌, ℕ, ◌+◌, ◌-◌, ◌*◌, ◌%◌, ◌<◌, ◌≤◌, Bool, true, false, ◌&&◌, if◌then◌else◌, nat_lt, nat_eq, List, [], ◌∷◌, ◌++◌, length, slice_get, Option, Some, None}
 use Rattle.std.specs.List.{Contains}
 use Rattle.std.specs.Int.{bit_at}
 use Rattle.xp_base.specs.declared.step.OpKind.{OpKind}
@@ -22,18 +22,19 @@ use Rattle.xp_base.specs.declared.reason.Reason.TheVariants.{BadVersion, BadMagi
 use Rattle.xp_base.specs.declared.session.Session.{Session}
 use Rattle.xp_base.specs.Memory.{Memory, word_at}
 use Rattle.xp_base.specs.History.{Act, Begun, Answered, Noticed, Marked, Turn, Event, Turned, happens, turns_of}
+use Rattle.xp_base.specs.declared.layout.TheConstants.{LINE_WORDS}
 use Rattle.xp_base.specs.Places.{Entry as EntryWord, place_of, region_of}
-use Rattle.xp_rules.specs.declared.commands.Command.{Command}
-use Rattle.xp_rules.specs.declared.commands.Command.TheVariants.{Send, Release}
-use Rattle.xp_rules.specs.declared.log.LogAnswer.{LogAnswer}
-use Rattle.xp_rules.specs.declared.log.LogAnswer.TheVariants.{Send as SendAnswered, Take as TakeAnswered, Drain as DrainAnswered}
-use Rattle.xp_rules.specs.declared.log.Entry.{Entry}
-use Rattle.xp_rules.specs.declared.log.Verb.TheVariants.{Send as SendVerb}
+use Rattle.xp_rules.specs.declared.commands.ChannelCommand.{ChannelCommand}
+use Rattle.xp_rules.specs.declared.commands.ChannelCommand.TheVariants.{Send, Release}
+use Rattle.xp_script.specs.declared.log.LogAnswer.{LogAnswer}
+use Rattle.xp_script.specs.declared.log.LogAnswer.TheVariants.{Send as SendAnswered, Take as TakeAnswered, Drain as DrainAnswered}
+use Rattle.xp_script.specs.declared.log.Entry.{Entry}
+use Rattle.xp_script.specs.declared.log.Verb.TheVariants.{Send as SendVerb}
 use Rattle.xp_rules.specs.declared.rule.RingRule.TheVariants.{ReadGet, WriteEntryWord, AcceptMessage}
 use Rattle.xp_rules.specs.declared.rule.Rule.{Rule}
 use Rattle.xp_rules.specs.declared.rule.Rule.TheVariants.{Ring, Acknowledge}
 use Rattle.xp_rules.specs.declared.setup.Setup.{Setup}
-use Rattle.xp_rules.specs.declared.scenario.Scenario.{Scenario}
+use Rattle.xp_script.specs.declared.scenario.Scenario.{Scenario}
 use Rattle.xp_rules.specs.Records.{Recorded}
 use Rattle.xp_rules.specs.State.{State, End, end_of, engage_of, link_of, start}
 use Rattle.xp_rules.specs.Decode.{rule_of}
@@ -41,7 +42,8 @@ use Rattle.xp_rules.specs.Acts.{upcoming, current, due, after_act, after_acts}
 use Rattle.xp_rules.specs.Releasing.{release_refusal}
 use Rattle.xp_rules.specs.Runs.{after_step, after_turn}
 use Rattle.xp_rules.specs.Logged.{Logged, logged_after}
-use Rattle.xp_rules.specs.Scenario.{setup_of, opening}
+use Rattle.xp_rules.specs.Scenario.{setup_of}
+use Rattle.xp_script.specs.Opening.{opening}
 use Rattle.xp_rules.specs.Reached.{known}
 
 -- what partition p has logged, and its records, after a history
@@ -111,14 +113,14 @@ abbrev pub with_released : Option ReleaseAnswer → ℕ → List ℕ → List �
 with_released None number ns = ns ++ number ∷ []
 with_released (Some refusal) number ns = ns
 
-abbrev pub begun_released : State → ℕ → ℕ → Option Command → List ℕ → List ℕ
+abbrev pub begun_released : State → ℕ → ℕ → Option ChannelCommand → List ℕ → List ℕ
 begun_released st q c (Some (Release q' c' number)) ns = if nat_eq q' q && nat_eq c' c then with_released (release_refusal (link_of (end_of st q c)) number (end_of st q c).ack) number ns else ns
 begun_released st q c x ns = ns
 
 abbrev pub released_act : Setup → State → ℕ → ℕ → Act → List ℕ → List ℕ
 released_act s st q c Begun ns = begun_released st q c (upcoming s st) ns
 released_act s st q c Answered ns = ns
-released_act s st q c (Noticed q' c') ns = ns
+released_act s st q c (Noticed q' c' number kind) ns = ns
 
 abbrev pub released_acts : Setup → State → ℕ → ℕ → List Act → List ℕ → List ℕ
 released_acts s st q c [] ns = ns
@@ -139,7 +141,7 @@ released_of s h p q c = released_from (setup_of s p) (start (setup_of s p)) q c 
 pub record HasRoom (s : Scenario) (h : List Event) (p q c f index : ℕ) : Type 0 where
   pub own : Recorded
   pub recorded : slice_get (records_of s h p) (end_of (known s h p) q c).record_number ≡ Some own
-  pub place : place_of index ≡ EntryWord q c (length own.accepted % (end_of (known s h p) q c).send.entries) f
+  pub place : place_of index ≡ EntryWord q c (LINE_WORDS * (length own.accepted % (end_of (known s h p) q c).send.entries) + f)
   pub room : length own.accepted < (end_of (known s h p) q c).send.entries + acked_of (other s h p own)
 
 -- a get that is stored: all messages below it were released, and taken before
@@ -196,18 +198,18 @@ pub record Sent : Type 0 where
   pub answer : Option LogAnswer
 
 -- the sends of a partition's turns, the last one first
-abbrev pub begun_send : State → Option Command → List Sent → List Sent
+abbrev pub begun_send : State → Option ChannelCommand → List Sent → List Sent
 begun_send st (Some (Send q c payload wait notify)) xs = record { number = st.script.begun + 1; partner = q; channel = c; payload = payload; wait = wait; beginning = end_of st q c; steps = []; answer = None } ∷ xs
 begun_send st x xs = xs
 
-abbrev pub answered_send : Option Command → Option LogAnswer → List Sent → List Sent
+abbrev pub answered_send : Option ChannelCommand → Option LogAnswer → List Sent → List Sent
 answered_send (Some (Send q c payload wait notify)) answer (x ∷ xs) = record x { answer = answer } ∷ xs
 answered_send x answer xs = xs
 
 abbrev pub sends_act : Setup → State → Act → List Sent → List Sent
 sends_act s st Begun xs = begun_send st (upcoming s st) xs
 sends_act s st Answered xs = answered_send (current s st) (due s st) xs
-sends_act s st (Noticed q c) xs = xs
+sends_act s st (Noticed q c number kind) xs = xs
 
 abbrev pub sends_acts : Setup → State → List Act → List Sent → List Sent
 sends_acts s st [] xs = xs

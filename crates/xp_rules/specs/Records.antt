@@ -3,7 +3,7 @@ use Rattle.std.specs.Prelude.{ℕ, ◌-◌, Bool, true, false, List, [], ◌∷�
 use Rattle.std.specs.Vec.{vec_len, vec_capacity}
 use Rattle.xp_base.specs.declared.reason.Reason.{Reason}
 use Rattle.xp_base.specs.declared.session.Session.{Session}
-use Rattle.xp_rules.specs.declared.setup.Link.{Link}
+use Rattle.xp_script.specs.declared.part.Link.{Link}
 use Rattle.xp_rules.specs.declared.records.Record.{Record}
 
 pub record Recorded : Type 0 where

@@ -18,7 +18,7 @@ use Rattle.xp_rules.specs.declared.rule.PullRule.{PullRule}
 use Rattle.xp_rules.specs.declared.rule.PullRule.TheVariants.{ReadCounters, ReadEntry}
 use Rattle.xp_rules.specs.declared.rule.Rule.{Rule}
 use Rattle.xp_rules.specs.declared.rule.Rule.TheVariants.{Ring, Pull, Acknowledge, TakeFlags, SetFlag}
-use Rattle.xp_rules.specs.declared.log.LogAnswer.TheVariants.{Send as SendAnswered, Release as ReleaseAnswered}
+use Rattle.xp_script.specs.declared.log.LogAnswer.TheVariants.{Send as SendAnswered, Release as ReleaseAnswered}
 use Rattle.xp_rules.specs.declared.engage.Engagement.{Engagement}
 use Rattle.xp_rules.specs.declared.copies.Copies.{Copies}
 use Rattle.xp_rules.specs.declared.setup.Setup.{Setup}

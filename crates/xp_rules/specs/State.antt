@@ -2,9 +2,9 @@
 use Rattle.std.specs.Prelude.{ℕ, Bool, true, false, ◌||◌, if◌then◌else◌, ◌+◌, List, [], ◌∷◌, slice_index_or, slice_set, replicate, Option, None}
 use Rattle.xp_base.specs.declared.link.LinkState.{LinkState}
 use Rattle.xp_base.specs.declared.link.LinkState.TheVariants.{Idle, Connected}
-use Rattle.xp_rules.specs.declared.setup.Link.{Link}
+use Rattle.xp_script.specs.declared.part.Link.{Link}
 use Rattle.xp_rules.specs.declared.setup.Setup.{Setup}
-use Rattle.xp_rules.specs.declared.log.LogAnswer.{LogAnswer}
+use Rattle.xp_script.specs.declared.log.LogAnswer.{LogAnswer}
 use Rattle.xp_rules.specs.declared.engage.Engagement.{Engagement}
 use Rattle.xp_rules.specs.declared.copies.Copies.{Copies}
 use Rattle.xp_rules.specs.Sending.{Sending, new_sending}

@@ -1,8 +1,9 @@
--- What a partition owes within a window of 1,024 turns, said of its finished list of turns: whatever the memory answers, nothing that is due waits longer.
+-- What a partition owes within a window of its turns, which has as many as the scenario's count of partitions says, said of its finished list of turns: whatever the memory answers, nothing that is due waits longer.
 -- No step is asked for a partner in a window in which a reason to deactivate it stands.
 use Rattle.std.specs.Prelude.{◌≡◌, ℕ, ◌+◌, ◌<◌, ◌≤◌, Bool, true, false, ◌||◌, List, [], ◌∷◌, ◌++◌, length, Some, None, IsSome, ◌⊎◌}
 use Rattle.xp_base.specs.History.{Act, Begun, Answered, Noticed, Marked, Turn}
-use Rattle.xp_rules.specs.declared.commands.Command.TheVariants.{Send, Take}
+use Rattle.xp_base.specs.Windows.{window_of}
+use Rattle.xp_rules.specs.declared.commands.ChannelCommand.TheVariants.{Send, Take}
 use Rattle.xp_rules.specs.declared.rule.RingRule.{RingRule}
 use Rattle.xp_rules.specs.declared.rule.RingRule.TheVariants.{ReadGet, WriteEntryWord, AcceptMessage}
 use Rattle.xp_rules.specs.declared.rule.PullRule.{PullRule}
@@ -20,13 +21,13 @@ abbrev pub begins : List Act → Bool
 begins [] = false
 begins (Begun ∷ more) = true
 begins (Answered ∷ more) = begins more
-begins (Noticed q c ∷ more) = begins more
+begins (Noticed q c number kind ∷ more) = begins more
 
 abbrev pub answers : List Act → Bool
 answers [] = false
 answers (Begun ∷ more) = answers more
 answers (Answered ∷ more) = true
-answers (Noticed q c ∷ more) = answers more
+answers (Noticed q c number kind ∷ more) = answers more
 
 -- one of some turns is such a one, said of the state right before it
 abbrev pub SomeTurn : (State → Turn → Type 0) → Setup → State → List Turn → Type 0
@@ -121,6 +122,6 @@ pub record Owed (s : Setup) (st : State) (window : List Turn) : Type 0 where
   pub requests : (q c : ℕ) → (end_of st q c).owes_message ≡ true → Throughout (IsFree q) s st window → SomeTurn (Steps (Requests q c) s) s st window
   pub copies : (q c : ℕ) → (end_of st q c).pull.owed ≡ true → Throughout (IsFree q) s st window → SomeThen (Steps (BeginsCopy q c) s) (Steps (EndsCopy q c) s) s st window
 
--- in each 1,024 consecutive turns what is owed is done
+-- in each window of consecutive turns what is owed is done
 abbrev pub Windows : Setup → List Turn → Type 0
-Windows s ts = (before window after : List Turn) → ts ≡ before ++ (window ++ after) → length window ≡ 1024 → Owed s (state_after s (start s) before) window
+Windows s ts = (before window after : List Turn) → ts ≡ before ++ (window ++ after) → length window ≡ window_of s.count → Owed s (state_after s (start s) before) window

@@ -2,7 +2,7 @@
 use xp_base::reason::Reason;
 
 /// How a partition stands to a partner: the reason to deactivate it, where one stands. The first reason is kept.
-#[derive(Clone, Copy, Debug, PartialEq, Eq)]
+#[derive(Clone, Copy)]
 pub struct Engagement {
     pub reason: Option<Reason>,
 }

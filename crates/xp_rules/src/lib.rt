@@ -1,11 +1,9 @@
-//! The rules of the protocol as definitions, and the plain data that they speak of.
+//! The rules of the protocol as definitions, and what a partition knows by them.
 #![tactic(auto)]
 
 pub mod commands;
 pub mod copies;
 pub mod engage;
-pub mod log;
 pub mod records;
 pub mod rule;
-pub mod scenario;
 pub mod setup;

@@ -2,7 +2,7 @@
 // whose ranges are part of the condition of each step.
 
 /// A step of the sending side of a channel.
-#[derive(Clone, Copy, Debug, PartialEq, Eq)]
+#[derive(Clone, Copy)]
 pub enum RingRule {
     /// Loads the partner's get, for a send in progress.
     ReadGet,
@@ -13,7 +13,7 @@ pub enum RingRule {
 }
 
 /// A step of the receiving side of a channel.
-#[derive(Clone, Copy, Debug, PartialEq, Eq)]
+#[derive(Clone, Copy)]
 pub enum PullRule {
     /// Loads the partner's counters: get, then put.
     ReadCounters,
@@ -22,7 +22,7 @@ pub enum PullRule {
 }
 
 /// A step, with its partner and its channel.
-#[derive(Clone, Copy, Debug, PartialEq, Eq)]
+#[derive(Clone, Copy)]
 pub enum Rule {
     Ring(u8, u8, RingRule),
     Pull(u8, u8, PullRule),

@@ -1,102 +1,21 @@
-// A partition's part of a scenario.
-ghost use Rattle.std.specs.Prelude.{◌≡◌};
-ghost use Rattle.xp_rules.specs.Setup.{is_mark, is_among};
+// What the rules are told of a partition's part of a scenario.
+ghost use Rattle.std.specs.Prelude.{◌≡◌, ◌<◌, IfOk};
+ghost use Rattle.xp_script.specs.Lawful.{IsLawful};
+ghost use Rattle.xp_script.specs.Built.{IsBuilt};
+ghost use Rattle.xp_rules.specs.Setup.{IsLawfulSetup};
+ghost use Rattle.xp_rules.specs.Commands.{channel_commands};
+ghost use Rattle.xp_rules.specs.Scenario.{setup_of, first_script};
 
-use crate::commands::Script;
-use std::marker::Model;
-use xp_base::ids::{Channel, PartId};
-use xp_base::step::CopyMark;
+use crate::commands::ChannelScript;
+use std::alloc::{AllocError, Global};
+use xp_base::ids::PartId;
+use xp_script::part::Links;
+use xp_script::scenario::Scenario;
+use xp_script::script::Boots;
+use xp_script::setting::Faults;
 
-/// A channel that opens connected, as one of its ends sees it: the partner, and the size of both queues.
-#[derive(Clone, Copy, Debug, PartialEq, Eq)]
-pub struct Link {
-    pub partner: PartId,
-    pub channel: Channel,
-    /// How many messages a queue holds: 1 to 8.
-    pub entries: u8,
-    /// The longest payload, in bytes: 0 to 112.
-    pub limit: u16,
-}
-
-/// The links of a partition, by partner and channel. Contracts see the list of them.
-#[derive(Drop)]
-pub struct Links {
-    pub list: Vec<Link>,
-}
-
-impl Model for Links {
-    ghost use Rattle.std.specs.Prelude.{List};
-    ghost use Rattle.xp_rules.specs.declared.setup.Link.{Link};
-
-    ghost Value = { List Link };
-
-    ghost view = { λ l. l.list.items };
-}
-
-impl Links {
-    /// The links of a list.
-    pub fn new(list: Vec<Link>) -> Links
-        ensures { result ≡ list.items }
-    {
-        Links { list }
-    }
-
-    pub fn as_slice(&self) -> &[Link]
-        ensures { result.now ≡ self.now }
-    {
-        &self.list
-    }
-}
-
-/// The loads that fail, each by its copy and its place there. Contracts see the list of them.
-#[derive(Drop)]
-pub struct Marks {
-    pub list: Vec<CopyMark>,
-}
-
-impl Model for Marks {
-    ghost use Rattle.std.specs.Prelude.{List};
-    ghost use Rattle.xp_base.specs.declared.step.CopyMark.{CopyMark};
-
-    ghost Value = { List CopyMark };
-
-    ghost view = { λ m. m.list.items };
-}
-
-impl Marks {
-    /// The marks of a list.
-    pub fn new(list: Vec<CopyMark>) -> Marks
-        ensures { result ≡ list.items }
-    {
-        Marks { list }
-    }
-
-    pub fn as_slice(&self) -> &[CopyMark]
-        ensures { result.now ≡ self.now }
-    {
-        &self.list
-    }
-
-    /// Whether the load of a mark is one of them.
-    pub fn contains(&self, mark: CopyMark) -> bool
-        ensures { result ≡ is_among mark self.now }
-    {
-        for one in self.as_slice() {
-            if is_mark(one, &mark) {
-                return true;
-            }
-        }
-        false
-    }
-}
-
-fn is_mark(one: &CopyMark, mark: &CopyMark) -> bool
-    ensures { result ≡ is_mark one.now mark.now }
-{
-    one.kind as u8 == mark.kind as u8 && one.number == mark.number && one.word == mark.word
-}
-
-/// What a partition is told of a scenario.
+/// What the rules are told: the partition, how many there are, its channels that open connected, the loads that fail,
+/// and the commands of its one boot.
 #[derive(Drop)]
 pub struct Setup {
     pub part: PartId,
@@ -106,6 +25,38 @@ pub struct Setup {
     pub budget: u64,
     pub links: Links,
     /// The loads that fail.
-    pub faults: Marks,
-    pub script: Script,
+    pub faults: Faults,
+    pub script: ChannelScript,
+}
+
+// The commands of the first boot that the rules know.
+#[tactic(auto, unfolding(crate::specs::Commands::channel_commands))]
+fn first_script(alloc: Global, boots: &Boots) -> Result<ChannelScript, AllocError>
+    ensures { IfOk result (λ script. script ≡ channel_commands (first_script boots.now)) }
+{
+    match boots.list.first() {
+        Some(script) => ChannelScript::of(alloc, script),
+        None => Ok(ChannelScript::empty(alloc)),
+    }
+}
+
+/// What the rules are told of partition `part` of a scenario that they can run.
+#[tactic(auto, using(crate::proofs::Setups::lawful_setup))]
+pub fn setup_for(alloc: Global, scenario: &Scenario, part: PartId) -> Result<Setup, AllocError>
+    requires lawful { IsLawful scenario.now }
+    requires built { IsBuilt scenario.now }
+    requires part { part < scenario.now.count }
+    ensures setup { IfOk result (λ setup. setup ≡ setup_of scenario.now part) }
+    ensures lawful { IfOk result (λ setup. IsLawfulSetup setup) }
+{
+    let told = scenario.part(alloc, part)?;
+    let script = first_script(alloc, &told.scripts)?;
+    Ok(Setup {
+        part,
+        count: told.count.get(),
+        budget: told.budget,
+        links: told.links,
+        faults: told.faults,
+        script,
+    })
 }

@@ -1,5 +1,6 @@
 // Commands, and their answers.
 ghost use Rattle.std.specs.Prelude.{◌≡◌, ℕ, ◌<◌, ◌≤◌, ◌+◌, ◌↔◌, length, true, false, IfSome, Some, None};
+ghost use Rattle.xp_base.specs.declared.body.TheConstants.{SEND_BYTES};
 ghost use Rattle.xp_rules.specs.Pulling.{take_refusal, take_due};
 ghost use Rattle.xp_rules.specs.Releasing.{release_refusal};
 ghost use Rattle.xp_channel.specs.End.{release_at_once};
@@ -9,17 +10,18 @@ ghost use Rattle.xp_channel.specs.Commanding.{MayCommand, is_sending, is_taking,
 use crate::channel::ChannelEnd;
 use crate::commands::{LinkAnswer, LinkCommand};
 use xp_base::answer::{DrainAnswer, ReleaseAnswer, SendAnswer, TakeAnswer};
+use xp_base::body::SEND_BYTES;
 use xp_base::link::LinkState;
 
 impl ChannelEnd {
-    /// Whether a command may come: none of its kind is in progress, and its payload has at most 4,096 bytes.
+    /// Whether a command may come: none of its kind is in progress, and its payload has at most `SEND_BYTES` bytes.
     pub fn may_begin(&self, command: LinkCommand<'_>) -> bool
         ensures { result ≡ true ↔ MayCommand self.now command.entry }
     {
         match command {
             LinkCommand::Send { payload, .. } => !self.link.is_sending()
                 && self.decided.send.is_none()
-                && payload.len() <= 4096,
+                && payload.len() <= SEND_BYTES,
             LinkCommand::Take { .. } => !self.link.is_taking() && self.decided.take.is_none(),
             LinkCommand::Release { .. } => {
                 !self.link.is_releasing() && self.decided.release.is_none()
@@ -62,7 +64,7 @@ impl ChannelEnd {
 
     fn begin_send(&mut self, payload: &[u8], wait: bool, notify: bool) -> Option<SendAnswer>
         requires idle { is_sending self.old ≡ false }
-        requires payload { length payload.now ≤ 4096 }
+        requires payload { length payload.now ≤ SEND_BYTES }
         ensures answer { result ≡ refused_send self.old payload.now }
         ensures end { self.new ≡ begun_send self.old payload.now wait notify }
     {
@@ -78,7 +80,7 @@ impl ChannelEnd {
 
     // A payload is refused that is longer than the limit that is registered.
     fn refuse_length(&self, payload: &[u8]) -> Option<SendAnswer>
-        requires { length payload.now ≤ 4096 }
+        requires { length payload.now ≤ SEND_BYTES }
         ensures { result ≡ too_long_for self.now.registration payload.now }
     {
         let limit = self.registration?.limit;
