@@ -1,15 +1,16 @@
 -- Each count of a partition is at most the number of its turns.
-use Rattle.std.proofs.Common.{◌≡◌, ℕ, zero, suc, ◌+◌, ◌^◌, ◌≤◌, Bool, true, false, cond, List, [], ◌∷◌, ◌++◌, length, refl, subst, sym, arith, Option, Some, None, nat_eq}
+use Rattle.std.proofs.Common.{◌≡◌, ℕ, ◌+◌, ◌^◌, ◌≤◌, Bool, true, false, cond, List, [], ◌∷◌, ◌++◌, length, refl, subst, sym, arith, Option, Some, None, nat_eq}
+use Rattle.xp_base.specs.declared.layout.TheConstants.{LINE_WORDS}
 use Rattle.xp_base.specs.declared.step.Answer.{Answer}
 use Rattle.xp_base.specs.declared.step.Answer.TheVariants.{Word, Failed}
 use Rattle.xp_base.specs.declared.step.Step.{Step}
-use Rattle.xp_base.specs.History.{Noticed, Marked}
+use Rattle.xp_base.specs.History.{Noticed, Delivered, Marked}
 use Rattle.xp_base.specs.declared.reason.Reason.{Reason}
 use Rattle.xp_base.specs.declared.answer.SendAnswer.{SendAnswer}
 use Rattle.xp_base.specs.declared.answer.TakeAnswer.{TakeAnswer}
-use Rattle.xp_rules.specs.declared.log.LogAnswer.{LogAnswer}
-use Rattle.xp_rules.specs.declared.commands.Command.{Command}
-use Rattle.xp_rules.specs.declared.commands.Command.TheVariants.{Send, Take, Release, Drain}
+use Rattle.xp_script.specs.declared.log.LogAnswer.{LogAnswer}
+use Rattle.xp_rules.specs.declared.commands.ChannelCommand.{ChannelCommand}
+use Rattle.xp_rules.specs.declared.commands.ChannelCommand.TheVariants.{Send, Take, Release, Drain}
 use Rattle.xp_rules.specs.declared.rule.RingRule.{RingRule}
 use Rattle.xp_rules.specs.declared.rule.RingRule.TheVariants.{ReadGet, WriteEntryWord, AcceptMessage}
 use Rattle.xp_rules.specs.declared.rule.PullRule.{PullRule}
@@ -29,7 +30,7 @@ use Rattle.xp_rules.proofs.Opened.{opened_fact}
 use Rattle.xp_rules.proofs.Ends.{owed_end, at_flagged}
 use Rattle.xp_node.specs.declared.turns.Made.{Made}
 use Rattle.xp_channel.specs.End.{HasEndRoom}
-use Rattle.xp_node.specs.Held.{HasRoom, channel_of, begun_acts, noticed_acts, answered_acts, told_acts}
+use Rattle.xp_node.specs.Held.{HasRoom, channel_of, begun_acts, noticed_acts, first_asked, answered_acts, told_acts}
 use Rattle.xp_node.specs.Turns.{turn_of, turns_from, steps_left}
 use Rattle.xp_node.proofs.Noticing.{acts-append}
 
@@ -90,7 +91,7 @@ copied_taken None ws p = refl
 copied_taken (Some r) ws p = refl
 
 entry_taken : (ws : List ℕ) (p : Pulling) → (entry_after ws p).taken ≡ p.taken
-entry_taken ws p = by (nat_eq (length ws) 16) where
+entry_taken ws p = by (nat_eq (length ws) LINE_WORDS) where
   by : (t : Bool) → (cond t (entry_copied (entry_fault p ws) ws p) (record p { copied = ws })).taken ≡ p.taken
   by true = copied_taken (entry_fault p ws) ws p
   by false = refl
@@ -177,13 +178,13 @@ taking_taken : (o : Option TakeAnswer) (wait : Bool) (x : Pulling) → (taking_u
 taking_taken None wait x = refl
 taking_taken (Some a) wait x = refl
 
-begun_end : (e : End) (x : Command) (n k : ℕ) → EndBounded e n k → EndBounded (end_begun e x) n k
+begun_end : (e : End) (x : ChannelCommand) (n k : ℕ) → EndBounded e n k → EndBounded (end_begun e x) n k
 begun_end e (Send q c payload wait notify) n k h = sending_end e e.warm (send_refusal (link_of e) payload e.send) (record { payload = payload; wait = wait; notify = notify }) n k h
 begun_end e (Take q c wait) n k h = same e _ n k refl (taking_taken (take_refusal (link_of e)) wait e.pull) h
 begun_end e (Release q c number) n k h = same e _ n k refl refl h
 begun_end e (Drain q c) n k h = h
 
-begun_bounded : (st : State) (o : Option Command) (n k : ℕ) → IsBounded st n k → IsBounded (begun_with st o) n k
+begun_bounded : (st : State) (o : Option ChannelCommand) (n k : ℕ) → IsBounded st n k → IsBounded (begun_with st o) n k
 unfolding AllBounded
 begun_bounded st None n k b = b
 begun_bounded st (Some x) n k b = record {
@@ -197,7 +198,7 @@ taken_up : (o : Option ℕ) (x : Pulling) (k : ℕ) → x.taken ≤ k → (take_
 taken_up None x k h = omega arith
 taken_up (Some put) x k h = omega arith
 
-ends_told : (st : State) (o : Option Command) (a : Option LogAnswer) (n k : ℕ) → AllBounded st.ends n k → AllBounded (ends_answered st o a) n (k + 1)
+ends_told : (st : State) (o : Option ChannelCommand) (a : Option LogAnswer) (n k : ℕ) → AllBounded st.ends n k → AllBounded (ends_answered st o a) n (k + 1)
 unfolding AllBounded
 ends_told st (Some (Take q c wait)) None n k each =
     let b = each q c in
@@ -218,16 +219,17 @@ told_bounded s st true n k h = record { counters = h.counters; get = h.get; entr
 told_bounded s st false n k h = weaker st n k n (k + 1) (omega arith) (omega arith) h
 
 -- so do notices
-noticed_bounded : (s : Setup) (st : State) (q c j n k : ℕ) → IsBounded st n k → IsBounded (after_acts s st (noticed_acts q c j)) n k
+noticed_bounded : (s : Setup) (st : State) (q c : ℕ) (numbers : List ℕ) (n k : ℕ) → IsBounded st n k → IsBounded (after_acts s st (noticed_acts q c numbers)) n k
 unfolding AllBounded
-noticed_bounded s st q c zero n k h = h
-noticed_bounded s st q c (suc j) n k h = noticed_bounded s (after_act s st (Noticed q c)) q c j n k (record { counters = h.counters; get = h.get; entries = h.entries; ends = set_bounded st.ends q c (end_noticed (end_of st q c)) n k (same (end_of st q c) _ n k refl refl (h.ends q c)) h.ends })
+noticed_bounded s st q c [] n k h = h
+noticed_bounded s st q c (j ∷ numbers) n k h = noticed_bounded s (after_act s st (Noticed q c j Delivered)) q c numbers n k (record { counters = h.counters; get = h.get; entries = h.entries; ends = set_bounded st.ends q c (end_noticed (end_of st q c)) n k (same (end_of st q c) _ n k refl refl (h.ends q c)) h.ends })
 
-after_bounded : (s : Setup) (st : State) (o : Option Rule) (j : ℕ) (b : Bool) (n k : ℕ) → IsBounded st n k → IsBounded (after_acts s st (told_acts o j b)) n (k + 1)
+after_bounded : (s : Setup) (st : State) (o : Option Rule) (j : ℕ) (b : Bool) (n k : ℕ) → IsBounded st n k → IsBounded (after_acts s st (told_acts st o j b)) n (k + 1)
 after_bounded s st None j b n k h = told_bounded s st b n k h
 after_bounded s st (Some r) j b n k h =
-    let acts = noticed_acts (partner_of r) (channel_of r) j in
-    subst (λ (x : State). IsBounded x n (k + 1)) (sym (acts-append s st acts (answered_acts b))) (told_bounded s (after_acts s st acts) b n k (noticed_bounded s st (partner_of r) (channel_of r) j n k h))
+    let numbers = first_asked st (partner_of r) (channel_of r) j in
+    let acts = noticed_acts (partner_of r) (channel_of r) numbers in
+    subst (λ (x : State). IsBounded x n (k + 1)) (sym (acts-append s st acts (answered_acts b))) (told_bounded s (after_acts s st acts) b n k (noticed_bounded s st (partner_of r) (channel_of r) numbers n k h))
 
 ruled_bounded : (st : State) (o : Option Rule) (a : Answer) (n k : ℕ) → IsBounded st n k → IsBounded (after_ruled st o a) (n + 1) k
 ruled_bounded st None a n k b = weaker st n k (n + 1) k (omega arith) (omega arith) b

@@ -14,7 +14,7 @@ use Rattle.xp_rules.specs.Runs.{after_step, after_turn, state_after}
 use Rattle.xp_rules.specs.Windows.{begins, answers}
 use Rattle.xp_rules.proofs.Undo.{undo}
 use Rattle.xp_rules.proofs.Makes.{marked_of, step_is}
-use Rattle.xp_node.specs.Held.{channel_of, begun_acts, answered_acts}
+use Rattle.xp_node.specs.Held.{channel_of, begun_acts, first_asked, answered_acts}
 use Rattle.xp_duties.specs.Plan.{plan}
 use Rattle.xp_duties.specs.Diligent.{CanBegin, IsDiligent, AreDiligent}
 use Rattle.xp_node.specs.Turns.{turn_of}
@@ -50,7 +50,7 @@ loud_at s number old b1 r a n b2 l can begin planned answer =
     record {
       begins = λ h. begins_by b1 (begin h);
       plans = undo s st r l can ∙ sym planned;
-      answers = λ h. answers_noticed (partner_of r) (channel_of r) n (answered_acts b2) ∙ answers_by b2 (answer (subst (λ (x : State). IsSome (due s x)) e h));
+      answers = λ h. answers_noticed (partner_of r) (channel_of r) (first_asked (after_step s st (Some (marked_of s st r a))) (partner_of r) (channel_of r) n) (answered_acts b2) ∙ answers_by b2 (answer (subst (λ (x : State). IsSome (due s x)) e h));
     }
 
 -- a turn whose step was answered

@@ -1,15 +1,12 @@
 -- Notices that are due are given at the end of the step, and then none is due anywhere.
-use Rattle.std.proofs.Common.{◌≡◌, ℕ, zero, suc, ◌+◌, Bool, true, false, cond, List, [], ◌∷◌, ◌++◌, refl, ap, sym, ◌∙◌, subst, inl, inr, ◌⊎◌, Option, Some, None}
-use Rattle.std.specs.Prelude.{IsSome}
-use Rattle.std.proofs.lemmas.Bool.{cases_eq}
-use Rattle.std.proofs.lemmas.List.{replicate-append-replicate}
+use Rattle.std.proofs.Common.{◌≡◌, ℕ, Bool, true, false, cond, List, [], ◌∷◌, ◌++◌, refl, ap, sym, ◌∙◌, subst, Option, Some, None}
 use Rattle.xp_base.specs.declared.answer.SendAnswer.{SendAnswer}
 use Rattle.xp_base.specs.declared.step.Answer.{Answer}
 use Rattle.xp_base.specs.declared.step.Answer.TheVariants.{Word, Failed}
-use Rattle.xp_base.specs.History.{Act, Noticed, Turn}
-use Rattle.xp_rules.specs.declared.commands.Command.{Command}
-use Rattle.xp_rules.specs.declared.commands.Command.TheVariants.{Send, Take, Release, Drain}
-use Rattle.xp_rules.specs.declared.log.LogAnswer.{LogAnswer}
+use Rattle.xp_base.specs.History.{Act, Noticed, Delivered, Turn}
+use Rattle.xp_rules.specs.declared.commands.ChannelCommand.{ChannelCommand}
+use Rattle.xp_rules.specs.declared.commands.ChannelCommand.TheVariants.{Send, Take, Release, Drain}
+use Rattle.xp_script.specs.declared.log.LogAnswer.{LogAnswer}
 use Rattle.xp_rules.specs.declared.rule.Rule.{Rule}
 use Rattle.xp_rules.specs.declared.rule.Rule.TheVariants.{Ring, Pull, Acknowledge, TakeFlags, SetFlag}
 use Rattle.xp_rules.specs.declared.setup.Setup.{Setup}
@@ -24,7 +21,7 @@ use Rattle.xp_rules.specs.Windows.{answers}
 use Rattle.xp_rules.proofs.Slots.{at_end}
 use Rattle.xp_rules.proofs.Opened.{opened_fact}
 use Rattle.xp_rules.proofs.Stays.{at_answered}
-use Rattle.xp_node.specs.Held.{IsNoticed, IsNoticedBut, IsNoticedAt, begun_acts, noticed_acts, answered_acts}
+use Rattle.xp_node.specs.Held.{IsNoticed, IsNoticedAt, begun_acts, noticed_acts, answered_acts}
 use Rattle.xp_rules.proofs.Ends.{set_other, stays_end, at_flagged}
 
 -- acts, one after the other
@@ -40,22 +37,23 @@ pub logged-append : (s : Setup) (st : State) (xs ys : List Act) (g : Logged) →
 logged-append s st [] ys g = refl
 logged-append s st (a ∷ xs) ys g = logged-append s (after_act s st a) xs ys (logged_act s st a g)
 
-one_more : (q c n : ℕ) → noticed_acts q c (n + 1) ≡ noticed_acts q c n ++ Noticed q c ∷ []
-one_more q c n = sym (replicate-append-replicate n 1 (Noticed q c))
+one_more : (q c : ℕ) (numbers : List ℕ) (n : ℕ) → noticed_acts q c (numbers ++ n ∷ []) ≡ noticed_acts q c numbers ++ Noticed q c n Delivered ∷ []
+one_more q c [] n = refl
+one_more q c (m ∷ numbers) n = ap (λ (acts : List Act). Noticed q c m Delivered ∷ acts) (one_more q c numbers n)
 
 -- one more notice
-pub more_state : (s : Setup) (st : State) (q c n : ℕ) → after_acts s st (noticed_acts q c (n + 1)) ≡ after_act s (after_acts s st (noticed_acts q c n)) (Noticed q c)
-more_state s st q c n = ap (λ (acts : List Act). after_acts s st acts) (one_more q c n) ∙ acts-append s st (noticed_acts q c n) (Noticed q c ∷ [])
+pub more_state : (s : Setup) (st : State) (q c : ℕ) (numbers : List ℕ) (n : ℕ) → after_acts s st (noticed_acts q c (numbers ++ n ∷ [])) ≡ after_act s (after_acts s st (noticed_acts q c numbers)) (Noticed q c n Delivered)
+more_state s st q c numbers n = ap (λ (acts : List Act). after_acts s st acts) (one_more q c numbers n) ∙ acts-append s st (noticed_acts q c numbers) (Noticed q c n Delivered ∷ [])
 
-pub more_may : (s : Setup) (st : State) (q c n : ℕ) → MayActs s st (noticed_acts q c n) → IsSome (notice_due (end_of (after_acts s st (noticed_acts q c n)) q c)) → MayActs s st (noticed_acts q c (n + 1))
-more_may s st q c n m h = subst (λ (acts : List Act). MayActs s st acts) (sym (one_more q c n)) (may-append s st (noticed_acts q c n) (Noticed q c ∷ []) m (h, tt))
+pub more_may : (s : Setup) (st : State) (q c : ℕ) (numbers : List ℕ) (n : ℕ) → MayActs s st (noticed_acts q c numbers) → notice_due (end_of (after_acts s st (noticed_acts q c numbers)) q c) ≡ Some n → MayActs s st (noticed_acts q c (numbers ++ n ∷ []))
+more_may s st q c numbers n m h = subst (λ (acts : List Act). MayActs s st acts) (sym (one_more q c numbers n)) (may-append s st (noticed_acts q c numbers) (Noticed q c n Delivered ∷ []) m ((h, refl), tt))
 
-pub more_logged : (s : Setup) (st : State) (q c n : ℕ) (g : Logged) → logged_acts s st (noticed_acts q c (n + 1)) g ≡ logged_act s (after_acts s st (noticed_acts q c n)) (Noticed q c) (logged_acts s st (noticed_acts q c n) g)
-more_logged s st q c n g = ap (λ (acts : List Act). logged_acts s st acts g) (one_more q c n) ∙ logged-append s st (noticed_acts q c n) (Noticed q c ∷ []) g
+pub more_logged : (s : Setup) (st : State) (q c : ℕ) (numbers : List ℕ) (n : ℕ) (g : Logged) → logged_acts s st (noticed_acts q c (numbers ++ n ∷ [])) g ≡ logged_act s (after_acts s st (noticed_acts q c numbers)) (Noticed q c n Delivered) (logged_acts s st (noticed_acts q c numbers) g)
+more_logged s st q c numbers n g = ap (λ (acts : List Act). logged_acts s st acts g) (one_more q c numbers n) ∙ logged-append s st (noticed_acts q c numbers) (Noticed q c n Delivered ∷ []) g
 
-pub answers_noticed : (q c n : ℕ) (acts : List Act) → answers (noticed_acts q c n ++ acts) ≡ answers acts
-answers_noticed q c zero acts = refl
-answers_noticed q c (suc n) acts = answers_noticed q c n acts
+pub answers_noticed : (q c : ℕ) (numbers : List ℕ) (acts : List Act) → answers (noticed_acts q c numbers ++ acts) ≡ answers acts
+answers_noticed q c [] acts = refl
+answers_noticed q c (n ∷ numbers) acts = answers_noticed q c numbers acts
 
 -- a command's beginning and its answer leave what is due
 begun_send : (e : End) (b : Bool) (o : Option SendAnswer) (m : Sendable) → notice_due (cond b (record e { send = begun_unless o m e.send }) e) ≡ notice_due e
@@ -63,13 +61,13 @@ begun_send e true None m = refl
 begun_send e true (Some a) m = refl
 begun_send e false o m = refl
 
-begun_due : (e : End) (x : Command) → notice_due (end_begun e x) ≡ notice_due e
+begun_due : (e : End) (x : ChannelCommand) → notice_due (end_begun e x) ≡ notice_due e
 begun_due e (Send q c payload wait notify) = begun_send e e.warm (send_refusal (link_of e) payload e.send) (record { payload = payload; wait = wait; notify = notify })
 begun_due e (Take q c wait) = refl
 begun_due e (Release q c number) = refl
 begun_due e (Drain q c) = refl
 
-begun_noticed : (st : State) (o : Option Command) → IsNoticed st → IsNoticed (begun_with st o)
+begun_noticed : (st : State) (o : Option ChannelCommand) → IsNoticed st → IsNoticed (begun_with st o)
 begun_noticed st None h = h
 begun_noticed st (Some x) h = λ q c. at_end (λ (y : End). notice_due y ≡ None) st.ends (partner_named x) (channel_named x) _ q c (λ e f. begun_due (end_of st (partner_named x) (channel_named x)) x ∙ h (partner_named x) (channel_named x)) (h q c)
 
@@ -94,38 +92,23 @@ step_noticed st (Acknowledge k d) Failed h = λ q c n. h q c
 step_noticed st (TakeFlags k) Failed h = λ q c. h q c
 step_noticed st (SetFlag k d) Failed h = λ q c n. h q c
 
-noticed_but : (s : Setup) (st : State) (k d n : ℕ) → IsNoticedBut k d st → IsNoticedBut k d (after_acts s st (noticed_acts k d n))
-noticed_but s st k d zero h = h
-noticed_but s st k d (suc n) h = noticed_but s (after_act s st (Noticed k d)) k d n (λ q c m. ap (λ (y : End). notice_due y) (set_other st.ends k d (end_noticed (end_of st k d)) q c m) ∙ h q c m)
-
-all_noticed : (st : State) (k d : ℕ) → IsNoticedBut k d st → notice_due (end_of st k d) ≡ None → IsNoticed st
-all_noticed st k d h here = λ q c. by q c (cases_eq q k) (cases_eq c d) where
-  by : (q c : ℕ) → (q ≡ k) ⊎ (q ≡ k → ⊥) → (c ≡ d) ⊎ (c ≡ d → ⊥) → notice_due (end_of st q c) ≡ None
-  by q c (inl e) (inl f) = ap (λ (n : ℕ). notice_due (end_of st n c)) e ∙ ap (λ (n : ℕ). notice_due (end_of st k n)) f ∙ here
-  by q c (inr n) j = h q c (λ e f. n e)
-  by q c (inl e) (inr n) = h q c (λ g f. n f)
-
--- after the notices of a step none is due
-pub told_noticed : (s : Setup) (st : State) (k d n : ℕ) → IsNoticedBut k d st → notice_due (end_of (after_acts s st (noticed_acts k d n)) k d) ≡ None → IsNoticed (after_acts s st (noticed_acts k d n))
-told_noticed s st k d n h here = all_noticed (after_acts s st (noticed_acts k d n)) k d (noticed_but s st k d n h) here
-
 -- notices leave the answer that is due
-due_by : (st st' : State) (o : Option Command) → ((q c : ℕ) → (end_of st' q c).pull ≡ (end_of st q c).pull) → ((q c : ℕ) → drained (end_of st' q c) ≡ drained (end_of st q c)) → due_to st' o ≡ due_to st o
+due_by : (st st' : State) (o : Option ChannelCommand) → ((q c : ℕ) → (end_of st' q c).pull ≡ (end_of st q c).pull) → ((q c : ℕ) → drained (end_of st' q c) ≡ drained (end_of st q c)) → due_to st' o ≡ due_to st o
 due_by st st' None h k = refl
 due_by st st' (Some (Send q c payload wait notify)) h k = refl
 due_by st st' (Some (Take q c wait)) h k = ap (λ (p : Pulling). take_told (take_due p)) (h q c)
 due_by st st' (Some (Release q c number)) h k = refl
 due_by st st' (Some (Drain q c)) h k = k q c
 
-pub due_after : (s : Setup) (st : State) (k d : ℕ) → due s (after_act s st (Noticed k d)) ≡ due s st
-due_after s st k d =
+pub due_after : (s : Setup) (st : State) (k d n : ℕ) → due s (after_act s st (Noticed k d n Delivered)) ≡ due s st
+due_after s st k d n =
     let x = end_noticed (end_of st k d) in
-    let e = due_by st (after_act s st (Noticed k d)) (current s st) (λ q c. stays_end (λ (y : End). y.pull) st.ends k d x q c refl) (λ q c. stays_end (λ (y : End). drained y) st.ends k d x q c refl) in
+    let e = due_by st (after_act s st (Noticed k d n Delivered)) (current s st) (λ q c. stays_end (λ (y : End). y.pull) st.ends k d x q c refl) (λ q c. stays_end (λ (y : End). drained y) st.ends k d x q c refl) in
     ap (λ (o : Option LogAnswer). cond st.script.doing (decided_or st.script.decided o) None) e
 
-pub due_noticed : (s : Setup) (st : State) (k d n : ℕ) → due s (after_acts s st (noticed_acts k d n)) ≡ due s st
-due_noticed s st k d zero = refl
-due_noticed s st k d (suc n) = due_noticed s (after_act s st (Noticed k d)) k d n ∙ due_after s st k d
+pub due_noticed : (s : Setup) (st : State) (k d : ℕ) (numbers : List ℕ) → due s (after_acts s st (noticed_acts k d numbers)) ≡ due s st
+due_noticed s st k d [] = refl
+due_noticed s st k d (n ∷ numbers) = due_noticed s (after_act s st (Noticed k d n Delivered)) k d numbers ∙ due_after s st k d n
 
 -- at the opening none is due, and so it is between turns
 start_noticed : (s : Setup) → IsNoticed (start s)

@@ -2,7 +2,7 @@
 use Rattle.std.proofs.Common.{◌≡◌, ℕ, zero, suc, ◌-◌, ◌||◌, cond, List, [], ◌∷◌, get_or, slice_get, subst, sym, refl, ap, ◌∙◌, Bool, true, false, Option, Some, None}
 use Rattle.std.specs.Prelude.{IfSome, is_some}
 use Rattle.std.proofs.lemmas.Bool.{or_left, or_right}
-use Rattle.xp_rules.specs.declared.commands.Command.{Command}
+use Rattle.xp_rules.specs.declared.commands.ChannelCommand.{ChannelCommand}
 use Rattle.xp_rules.specs.Setup.{IsPeer, IsLawfulSetup}
 use Rattle.xp_rules.specs.Acts.{current, partner_named, channel_named}
 use Rattle.xp_rules.proofs.Lawful.{lawful_link, lawful_command}
@@ -10,7 +10,7 @@ use Rattle.xp_node.proofs.Lawful.{peer}
 use Rattle.xp_rules.specs.declared.rule.PullRule.TheVariants.{ReadCounters}
 use Rattle.xp_rules.specs.declared.rule.Rule.{Rule}
 use Rattle.xp_rules.specs.declared.rule.Rule.TheVariants.{Ring, Pull, Acknowledge, TakeFlags, SetFlag}
-use Rattle.xp_rules.specs.declared.setup.Link.{Link}
+use Rattle.xp_script.specs.declared.part.Link.{Link}
 use Rattle.xp_rules.specs.declared.setup.Setup.{Setup}
 use Rattle.xp_rules.specs.State.{State, End, end_of, engage_of, idle_end, row_of, any_warm}
 use Rattle.xp_rules.specs.Rules.{IsUsable, Can}
@@ -36,7 +36,7 @@ each s st q c None u h = tt
 each s st q c (Some r) u h = makes_end s st q c r u h
 
 -- what the end of the command in progress makes next is permitted
-pub planned : (s : Setup) (st : State) (x : Command) (q c : ℕ) (o : Option Rule) → IsLawfulSetup s → current s st ≡ Some x → q ≡ partner_named x → c ≡ channel_named x → is_some (engage_of st q).reason ≡ false → (end_of st q c).warm ≡ true → IfSome o (λ r. EndMakes (end_of st q c) q c r) → IfSome o (λ r. Can s st r)
+pub planned : (s : Setup) (st : State) (x : ChannelCommand) (q c : ℕ) (o : Option Rule) → IsLawfulSetup s → current s st ≡ Some x → q ≡ partner_named x → c ≡ channel_named x → is_some (engage_of st q).reason ≡ false → (end_of st q c).warm ≡ true → IfSome o (λ r. EndMakes (end_of st q c) q c r) → IfSome o (λ r. Can s st r)
 planned s st x q c o l e f g free warm h =
     let p = peer s x (lawful_command s s.script (st.script.begun - 1) x l.commands e) in
     let P : ℕ → Type 0 = λ y. IsPeer s.part s.count y c in

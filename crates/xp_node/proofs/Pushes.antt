@@ -8,10 +8,10 @@ use Rattle.xp_rules.specs.State.{State}
 use Rattle.xp_rules.specs.Runs.{May, RunsFrom, after_turn, state_after}
 use Rattle.xp_rules.specs.Logged.{Logged, logged_turn, logged_from}
 use Rattle.xp_node.specs.declared.turns.Made.{Made}
-use Rattle.xp_node.specs.Held.{begun_acts, told_acts}
+use Rattle.xp_node.specs.Held.{begun_acts}
 use Rattle.xp_rules.specs.Acts.{after_acts}
 use Rattle.xp_node.specs.Node.{steps_made, steps_of}
-use Rattle.xp_node.specs.Turns.{step_in, steps_left, turn_of, turns_from, rule_count, step_count}
+use Rattle.xp_node.specs.Turns.{step_in, steps_left, turn_from, turn_of, turns_from, rule_count, step_count}
 
 pub state_after-push : (s : Setup) (st : State) (ts : List Turn) (t : Turn) → state_after s st (ts ++ t ∷ []) ≡ after_turn s (state_after s st ts) t
 state_after-push s st [] t = refl
@@ -55,7 +55,7 @@ left-append (Some r) [] new h = absurd h
 left-append (Some r) (x ∷ xs) new h = refl
 
 turn-append : (s : Setup) (st : State) (m : Made) (xs new : List Step) → Has m.rule xs → turn_of s st m (xs ++ new) ≡ turn_of s st m xs
-turn-append s st m xs new h = ap (λ (o : Option Marked). record { before = begun_acts m.began; made = o; after = told_acts m.rule m.noticed m.answered }) (step_in-append (after_acts s st (begun_acts m.began)) m.rule xs new h)
+turn-append s st m xs new h = ap (λ (o : Option Marked). turn_from s (after_acts s st (begun_acts m.began)) m o) (step_in-append (after_acts s st (begun_acts m.began)) m.rule xs new h)
 
 pub turns_from-push : (s : Setup) (st : State) (ms : List Made) (m : Made) (xs new : List Step) → length xs ≡ step_count ms → turns_from s st (ms ++ m ∷ []) (xs ++ new) ≡ turns_from s st ms xs ++ turn_of s (state_after s st (turns_from s st ms xs)) m new ∷ []
 turns_from-push s st [] m [] new h = refl

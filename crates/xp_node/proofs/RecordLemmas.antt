@@ -1,8 +1,8 @@
 -- One record of a list changes.
 use Rattle.std.proofs.Common.{◌≡◌, ℕ, zero, suc, ◌+◌, ◌*◌, ◌<◌, ◌≤◌, List, [], ◌∷◌, length, get_or, set, map, refl, ap, sym, ◌∙◌, subst, arith, ◌⊎◌, inl, inr, get_or-set_same, get_or-set_other, Some}
 use Rattle.std.proofs.lemmas.Bool.{cases_eq}
-use Rattle.xp_rules.specs.declared.log.Entry.{Entry}
-use Rattle.xp_rules.specs.declared.log.LogAnswer.{LogAnswer}
+use Rattle.xp_script.specs.declared.log.Entry.{Entry}
+use Rattle.xp_script.specs.declared.log.LogAnswer.{LogAnswer}
 use Rattle.xp_rules.specs.declared.records.Record.{Record}
 use Rattle.xp_rules.specs.Records.{Recorded, seen, accepted_room, taken_room, asked_room, delivered_room, update_at}
 use Rattle.xp_rules.specs.Logged.{last_answered}

@@ -1,11 +1,11 @@
 -- The steps that a node wants, and room for its counts.
-use Rattle.std.proofs.Common.{◌≡◌, ℕ, zero, suc, ◌+◌, ◌^◌, ◌<◌, ◌≤◌, Bool, true, false, List, length, refl, ap, sym, subst, arith, Option, Some, None}
+use Rattle.std.proofs.Common.{◌≡◌, ℕ, ◌+◌, ◌^◌, ◌<◌, ◌≤◌, Bool, true, false, List, [], ◌∷◌, length, refl, ap, sym, subst, arith, Option, Some, None}
 use Rattle.std.specs.Prelude.{IfSome}
 use Rattle.xp_base.specs.declared.step.OpKind.TheVariants.{Load}
 use Rattle.xp_base.specs.declared.step.Answer.{Answer}
 use Rattle.xp_base.specs.declared.step.Step.{Step}
-use Rattle.xp_base.specs.History.{Noticed}
-use Rattle.xp_rules.specs.declared.commands.Command.{Command}
+use Rattle.xp_base.specs.History.{Noticed, Delivered}
+use Rattle.xp_rules.specs.declared.commands.ChannelCommand.{ChannelCommand}
 use Rattle.xp_rules.specs.declared.rule.RingRule.TheVariants.{ReadGet, WriteEntryWord, AcceptMessage}
 use Rattle.xp_rules.specs.declared.rule.Rule.{Rule}
 use Rattle.xp_rules.specs.declared.rule.Rule.TheVariants.{Ring, Pull, Acknowledge, TakeFlags, SetFlag}
@@ -43,7 +43,7 @@ pub idle_waits : (s : Setup) (st : State) (w : Option Waiting) → waiting_for s
 idle_waits s st None h = refl
 idle_waits s st (Some w) h = absurd (cc)
 
-begun_up : (st : State) (o : Option Command) → (begun_with st o).script.begun ≤ st.script.begun + 1
+begun_up : (st : State) (o : Option ChannelCommand) → (begun_with st o).script.begun ≤ st.script.begun + 1
 begun_up st None = omega arith
 begun_up st (Some x) = omega arith
 
@@ -84,8 +84,8 @@ connected_began s st st1 kept ms xs done b place t e =
     subst (λ (x : State). AreConnected s x) (sym e) (acts_connected s st (begun_acts b) (subst (λ (x : State). AreConnected s x) (sym t.state) (turns_warm s (made_turns s ms xs) t.lawful)))
 
 -- notices leave the room
-act_room : (s : Setup) (st : State) (k d : ℕ) → HasRoom st → HasRoom (after_act s st (Noticed k d))
-act_room s st k d h = record {
+act_room : (s : Setup) (st : State) (k d n : ℕ) → HasRoom st → HasRoom (after_act s st (Noticed k d n Delivered))
+act_room s st k d n h = record {
   counters = h.counters;
   get = h.get;
   entries = h.entries;
@@ -95,9 +95,9 @@ act_room s st k d h = record {
       record { put = omega (arith, put, (h.ends q c).put); taken = omega (arith, taken, (h.ends q c).taken) };
 }
 
-pub room_noticed : (s : Setup) (st : State) (k d n : ℕ) → HasRoom st → HasRoom (after_acts s st (noticed_acts k d n))
-room_noticed s st k d zero h = h
-room_noticed s st k d (suc n) h = room_noticed s (after_act s st (Noticed k d)) k d n (act_room s st k d h)
+pub room_noticed : (s : Setup) (st : State) (k d : ℕ) (numbers : List ℕ) → HasRoom st → HasRoom (after_acts s st (noticed_acts k d numbers))
+room_noticed s st k d [] h = h
+room_noticed s st k d (n ∷ numbers) h = room_noticed s (after_act s st (Noticed k d n Delivered)) k d numbers (act_room s st k d n h)
 
 pub can_low : (s : Setup) (st : State) (r : Rule) → IsLawfulSetup s → Can s st r → (partner_of r < 8) × (channel_of r < 4)
 can_low s st (Ring q c m) l h = (omega (arith, h.0.peer.0, l.count), h.0.peer.2)

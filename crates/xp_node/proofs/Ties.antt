@@ -4,7 +4,7 @@ use Rattle.std.specs.Prelude.{IsSome}
 use Rattle.std.specs.Global.{Global}
 use Rattle.std.specs.declared.vec.Vec.{Vec}
 use Rattle.xp_base.specs.declared.step.Answer.{Answer}
-use Rattle.xp_rules.specs.declared.log.Entry.{Entry}
+use Rattle.xp_script.specs.declared.log.Entry.{Entry}
 use Rattle.xp_rules.specs.declared.records.Record.{Record}
 use Rattle.xp_rules.specs.declared.rule.Rule.{Rule}
 use Rattle.xp_rules.specs.Records.{Recorded, seen}
@@ -97,7 +97,7 @@ pub quiet_turns : (s : Setup) (ms ms' : List Made) (m : Made) (xs : List Step) �
 quiet_turns s ms ms' m xs h e = ap (λ (ys : List Made). made_turns s ys xs) e ∙ ap (λ (ys : List Step). made_turns s (ms ++ m ∷ []) ys) (sym (append-nil xs)) ∙ turns_from-push s (start s) ms m xs [] h
 
 -- a turn whose step was answered
-pub loud_tied : (s : Setup) (st st2 st3 : State) (kept k1 k2 k3 : Kept) (ms ms' : List Made) (xs xs' : List Step) (w : Waiting) (a : Answer) (x : Step) (n : ℕ) (b2 done done' : Bool) (place place' : ℕ) → Tie s st kept ms xs (Some w) done place → is_failed a ≡ fails_at s (mark_of st w.rule) → x ≡ record { op = op_of s st w.rule; answer = a } → k1.log.items ≡ kept.log.items ++ begun_entries w.began s st → k1.records ≡ kept.records → k2.log ≡ k1.log → map seen k2.records.items ≡ records_answered st (Some w.rule) a (map seen k1.records.items) → st2 ≡ after_answer st w.rule a → st3 ≡ after_acts s st2 (told_acts (Some w.rule) n b2) → MayActs s st2 (told_acts (Some w.rule) n b2) → must_answer st3 ≡ false → IsNoticed st3 → logged_of k3 ≡ logged_acts s st2 (told_acts (Some w.rule) n b2) (logged_of k2) → (IsSome (due s st2) → b2 ≡ true) → ms' ≡ ms ++ record { began = w.began; rule = Some w.rule; noticed = n; answered = b2 } ∷ [] → xs' ≡ xs ++ x ∷ [] → done' ≡ is_done s st3 → place' ≡ next_place s place → Tie s st3 k3 ms' xs' None done' place'
+pub loud_tied : (s : Setup) (st st2 st3 : State) (kept k1 k2 k3 : Kept) (ms ms' : List Made) (xs xs' : List Step) (w : Waiting) (a : Answer) (x : Step) (n : ℕ) (b2 done done' : Bool) (place place' : ℕ) → Tie s st kept ms xs (Some w) done place → is_failed a ≡ fails_at s (mark_of st w.rule) → x ≡ record { op = op_of s st w.rule; answer = a } → k1.log.items ≡ kept.log.items ++ begun_entries w.began s st → k1.records ≡ kept.records → k2.log ≡ k1.log → map seen k2.records.items ≡ records_answered st (Some w.rule) a (map seen k1.records.items) → st2 ≡ after_answer st w.rule a → st3 ≡ after_acts s st2 (told_acts st2 (Some w.rule) n b2) → MayActs s st2 (told_acts st2 (Some w.rule) n b2) → must_answer st3 ≡ false → IsNoticed st3 → logged_of k3 ≡ logged_acts s st2 (told_acts st2 (Some w.rule) n b2) (logged_of k2) → (IsSome (due s st2) → b2 ≡ true) → ms' ≡ ms ++ record { began = w.began; rule = Some w.rule; noticed = n; answered = b2 } ∷ [] → xs' ≡ xs ++ x ∷ [] → done' ≡ is_done s st3 → place' ≡ next_place s place → Tie s st3 k3 ms' xs' None done' place'
 loud_tied s st st2 st3 kept k1 k2 k3 ms ms' xs xs' w a x n b2 done done' place place' t fa ex kl kr k2l k2r e2 e3 m3 told silent l answer em exs ed next =
     let old = state_after s (start s) (made_turns s ms xs) in
     let g = logged_of kept in

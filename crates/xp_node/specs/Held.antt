@@ -1,6 +1,6 @@
 -- What the machines of a partition ask for besides the rules: room in their counts, and that the rule is one that they plan; and the acts of a turn.
-use Rattle.std.specs.Prelude.{◌≡◌, ℕ, ◌-◌, ◌<◌, ◌^◌, Bool, true, if◌then◌else◌, List, [], ◌∷◌, ◌++◌, replicate, slice_get, Option, Some, None, IsSome}
-use Rattle.xp_base.specs.History.{Act, Begun, Answered, Noticed}
+use Rattle.std.specs.Prelude.{◌≡◌, ℕ, ◌-◌, ◌<◌, ◌^◌, Bool, true, if◌then◌else◌, List, [], ◌∷◌, ◌++◌, map, take, slice_get, Option, Some, None, IsSome}
+use Rattle.xp_base.specs.History.{Act, Begun, Answered, Noticed, Delivered}
 use Rattle.xp_rules.specs.declared.copies.Copies.{Copies}
 use Rattle.xp_rules.specs.declared.rule.PullRule.{PullRule}
 use Rattle.xp_rules.specs.declared.rule.PullRule.TheVariants.{ReadCounters, ReadEntry}
@@ -8,7 +8,7 @@ use Rattle.xp_rules.specs.Sending.{ring_can}
 use Rattle.xp_rules.specs.Pulling.{pull_can}
 use Rattle.xp_rules.specs.declared.rule.Rule.{Rule}
 use Rattle.xp_rules.specs.declared.rule.Rule.TheVariants.{Ring, Pull, Acknowledge, TakeFlags, SetFlag}
-use Rattle.xp_rules.specs.declared.setup.Link.{Link}
+use Rattle.xp_script.specs.declared.part.Link.{Link}
 use Rattle.xp_rules.specs.declared.setup.Setup.{Setup}
 use Rattle.xp_rules.specs.State.{State, End, end_of}
 use Rattle.xp_rules.specs.Rules.{begun_more, partner_of}
@@ -75,16 +75,21 @@ IsNoticedAt st (SetFlag q c) = IsNoticedBut q c st
 abbrev pub begun_acts : Bool → List Act
 begun_acts b = if b then Begun ∷ [] else []
 
--- and those after it: notices at the end of the step, and the command is answered
-abbrev pub noticed_acts : ℕ → ℕ → ℕ → List Act
-noticed_acts q c n = replicate n (Noticed q c)
+-- and those after it: at the end of the step the delivery of the messages of these numbers is told, and the command is answered
+abbrev pub noticed_acts : ℕ → ℕ → List ℕ → List Act
+noticed_acts q c numbers = map (λ number. Noticed q c number Delivered) numbers
 
 abbrev pub answered_acts : Bool → List Act
 answered_acts b = if b then Answered ∷ [] else []
 
-abbrev pub told_acts : Option Rule → ℕ → Bool → List Act
-told_acts None n b = answered_acts b
-told_acts (Some r) n b = noticed_acts (partner_of r) (channel_of r) n ++ answered_acts b
+-- the first n numbers of those that are asked for at an end
+abbrev pub first_asked : State → ℕ → ℕ → ℕ → List ℕ
+first_asked st q c n = take n (end_of st q c).asked
+
+-- in the state after the step, whose rule is r: n notices, and whether the command is answered
+abbrev pub told_acts : State → Option Rule → ℕ → Bool → List Act
+told_acts st None n b = answered_acts b
+told_acts st (Some r) n b = noticed_acts (partner_of r) (channel_of r) (first_asked st (partner_of r) (channel_of r) n) ++ answered_acts b
 
 -- where the rule is of a sending side, a send is in progress there
 abbrev pub IsSending : State → Rule → Type 0

@@ -2,11 +2,11 @@
 use Rattle.std.specs.Prelude.{◌≡◌, ℕ, ◌+◌, ◌-◌, ◌/◌, ◌^◌, ◌≤◌, min, Bool, if◌then◌else◌, List, [], ◌∷◌, map, Option, Some, None}
 use Rattle.std.specs.Vec.{vec_len, vec_capacity}
 use Rattle.xp_base.specs.declared.answer.TakeAnswer.TheVariants.{Taken}
-use Rattle.xp_rules.specs.declared.commands.Command.{Command}
-use Rattle.xp_rules.specs.declared.commands.Command.TheVariants.{Send, Take, Release, Drain}
-use Rattle.xp_rules.specs.declared.log.Entry.{Entry}
-use Rattle.xp_rules.specs.declared.log.LogAnswer.{LogAnswer}
-use Rattle.xp_rules.specs.declared.log.LogAnswer.TheVariants.{Take as TakeAnswered}
+use Rattle.xp_rules.specs.declared.commands.ChannelCommand.{ChannelCommand}
+use Rattle.xp_rules.specs.declared.commands.ChannelCommand.TheVariants.{Send, Take, Release, Drain}
+use Rattle.xp_script.specs.declared.log.Entry.{Entry}
+use Rattle.xp_script.specs.declared.log.LogAnswer.{LogAnswer}
+use Rattle.xp_script.specs.declared.log.LogAnswer.TheVariants.{Take as TakeAnswered}
 use Rattle.xp_rules.specs.declared.records.Record.{Record}
 use Rattle.xp_rules.specs.declared.setup.Setup.{Setup}
 use Rattle.xp_rules.specs.Records.{Recorded, seen, accepted_room, taken_room, asked_room, delivered_room, has_accepted, has_taken, has_asked, update_at}
@@ -14,7 +14,7 @@ use Rattle.xp_rules.specs.State.{State, end_of}
 use Rattle.xp_rules.specs.Acts.{current, after_acts, MayActs}
 use Rattle.xp_rules.specs.Logged.{Logged, begun_entry, logged_acts}
 use Rattle.xp_node.specs.declared.kept.Kept.{Kept}
-use Rattle.xp_node.specs.Held.{noticed_acts}
+use Rattle.xp_node.specs.Held.{noticed_acts, first_asked}
 
 abbrev pub logged_of : Kept → Logged
 logged_of k = record { entries = k.log.items; records = map seen k.records.items }
@@ -47,11 +47,11 @@ pub record Falls (old new : List Record) (a t k d : ℕ) : Type 0 where
   pub asked : least asked_room old ≤ least asked_room new + k
   pub delivered : least delivered_room old ≤ least delivered_room new + d
 
--- some notices were given at an end, and noted
+-- n notices were given at an end, of the numbers that were asked for first, and noted
 pub record Gives (old new : State) (g g' : Logged) (q c n : ℕ) : Type 0 where
-  pub state : (s : Setup) → new ≡ after_acts s old (noticed_acts q c n)
-  pub may : (s : Setup) → MayActs s old (noticed_acts q c n)
-  pub logged : (s : Setup) → g' ≡ logged_acts s old (noticed_acts q c n) g
+  pub state : (s : Setup) → new ≡ after_acts s old (noticed_acts q c (first_asked old q c n))
+  pub may : (s : Setup) → MayActs s old (noticed_acts q c (first_asked old q c n))
+  pub logged : (s : Setup) → g' ≡ logged_acts s old (noticed_acts q c (first_asked old q c n)) g
 
 -- the entry of a command that was begun, in the state after it
 abbrev pub begun_entries : Bool → Setup → State → List Entry
@@ -63,7 +63,7 @@ accepted_as body None r = has_accepted body r
 accepted_as body (Some number) r = has_asked number (has_accepted body r)
 
 -- which record a take in progress is about
-abbrev pub take_place : State → Option Command → Option ℕ
+abbrev pub take_place : State → Option ChannelCommand → Option ℕ
 take_place st None = None
 take_place st (Some (Send q c payload wait notify)) = None
 take_place st (Some (Take q c wait)) = Some (end_of st q c).record_number

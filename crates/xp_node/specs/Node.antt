@@ -1,5 +1,6 @@
 -- What is seen of a node, and how what it keeps stands for its turns.
 use Rattle.std.specs.Prelude.{◌≡◌, ℕ, ◌+◌, ◌<◌, ◌≤◌, Bool, true, false, List, [], ◌∷◌, ◌++◌, Option, Some, None, IfSome}
+use Rattle.xp_base.specs.declared.layout.TheConstants.{PART_WORDS}
 use Rattle.xp_base.specs.declared.step.Answer.{Answer}
 use Rattle.xp_base.specs.declared.step.OpKind.TheVariants.{Load}
 use Rattle.xp_base.specs.declared.step.Step.{Step}
@@ -59,5 +60,5 @@ pub record MakesTurn (old new : NodeView) (made : Option Marked) : Type 0 where
 -- a step that is wanted is on a word of the layout; one with a mark is a load
 pub record IsStep (s : Setup) (w : Wanted) : Type 0 where
   pub owner : w.op.owner < s.count
-  pub index : w.op.index < 5912
+  pub index : w.op.index < PART_WORDS
   pub load : IfSome w.mark (λ mark. w.op.kind ≡ Load)

@@ -9,7 +9,7 @@ use Rattle.xp_rules.specs.Setup.{IsLawfulSetup}
 use Rattle.xp_rules.specs.State.{State, start}
 use Rattle.xp_rules.specs.Rules.{Can, mark_of, op_of, wanted_of}
 use Rattle.xp_rules.specs.Acts.{after_acts, MayActs}
-use Rattle.xp_rules.specs.Runs.{Runs, is_done, state_after, after_turn}
+use Rattle.xp_rules.specs.Runs.{Runs, is_done, state_after, after_step, after_turn}
 use Rattle.xp_rules.specs.Logged.{logged_after}
 use Rattle.xp_node.specs.declared.kept.Kept.{Kept}
 use Rattle.xp_node.specs.declared.turns.Made.{Made}
@@ -30,8 +30,12 @@ steps_left None xs = xs
 steps_left (Some r) [] = []
 steps_left (Some r) (x ∷ xs) = xs
 
+-- the turn of what is kept, in the state after the acts before its step
+abbrev pub turn_from : Setup → State → Made → Option Marked → Turn
+turn_from s st m made = record { before = begun_acts m.began; made = made; after = told_acts (after_step s st made) m.rule m.noticed m.answered }
+
 abbrev pub turn_of : Setup → State → Made → List Step → Turn
-turn_of s st m xs = record { before = begun_acts m.began; made = step_in (after_acts s st (begun_acts m.began)) m.rule xs; after = told_acts m.rule m.noticed m.answered }
+turn_of s st m xs = turn_from s (after_acts s st (begun_acts m.began)) m (step_in (after_acts s st (begun_acts m.began)) m.rule xs)
 
 abbrev pub turns_from : Setup → State → List Made → List Step → List Turn
 turns_from s st [] xs = []

@@ -40,7 +40,7 @@ pub fn opened(setup: &Setup) -> [[LinkEnd; 4]; 8]
     ensures { result ≡ opened_ends setup.now.part 0 setup.now.links idle_ends }
 {
     let mut ends = all_idle();
-    let links = setup.links.as_slice();
+    let links = setup.links.list.as_slice();
     for (number, link) in links.iter().enumerate() {
         let partner = link.partner.get() as usize;
         let channel = link.channel.get() as usize;

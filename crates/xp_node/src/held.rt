@@ -7,7 +7,7 @@ ghost use Rattle.xp_rules.specs.Pulling.{pull_word};
 ghost use Rattle.xp_rules.specs.State.{start, end_of, set_end, engage_of};
 ghost use Rattle.xp_rules.specs.Rules.{Can, pull_mark, wanted_of, wants_notice};
 ghost use Rattle.xp_rules.specs.Runs.{is_done};
-ghost use Rattle.xp_rules.specs.Acts.{current, begun_with, after_acts, MayActs, due, due_to, ends_answered, notice_due, end_noticed};
+ghost use Rattle.xp_rules.specs.Acts.{partner_named, current, begun_with, after_acts, MayActs, due, due_to, ends_answered, notice_due, end_noticed};
 ghost use Rattle.xp_channel.specs.End.{IsShort};
 ghost use Rattle.xp_node.specs.Held.{HasRoom, begun_acts, answered_acts};
 ghost use Rattle.xp_node.specs.Kept.{take_place};
@@ -24,12 +24,12 @@ use xp_base::ids::{Channel, PartId};
 use xp_base::places::{counters, flag_word};
 use xp_base::step::{CopyMark, Op, OpKind, Wanted};
 use xp_channel::end::{LinkEnd, message_flag};
-use xp_rules::commands::Command;
+use xp_rules::commands::ChannelCommand;
 use xp_rules::copies::Copies;
 use xp_rules::engage::Engagement;
-use xp_rules::log::LogAnswer;
 use xp_rules::rule::{PullRule, Rule};
 use xp_rules::setup::Setup;
+use xp_script::log::LogAnswer;
 
 /// The machines of a partition. Contracts see what it knows.
 #[derive(Drop)]
@@ -95,7 +95,7 @@ impl Held {
     }
 
     /// The command in progress, or the last one.
-    pub fn current<'a>(&self, setup: &'a Setup) -> Option<&'a Command>
+    pub fn current<'a>(&self, setup: &'a Setup) -> Option<&'a ChannelCommand>
         ensures { option_copied result ≡ current setup.now self.now }
     {
         setup.script.get(self.begun.saturating_sub(1))
@@ -121,8 +121,9 @@ impl Held {
         }
     }
 
-    fn begin(&mut self, command: &Command)
+    fn begin(&mut self, command: &ChannelCommand)
         requires begun { self.old.script.begun < 2 ^ 32 }
+        requires partner { partner_named command.now < 8 }
         requires short { IsShort command.now }
         requires room { HasRoom self.old }
         ensures { self.new ≡ begun_with self.old (Some command.now) }
@@ -207,7 +208,8 @@ impl Held {
 
     /// The answer that is due, which is given.
     pub fn answer(&mut self, setup: &Setup) -> Option<LogAnswer>
-        requires { HasRoom self.old }
+        requires lawful { IsLawfulSetup setup.now }
+        requires room { HasRoom self.old }
         ensures value { result ≡ due setup.now self.old }
         ensures state { self.new ≡ after_acts setup.now self.old (answered_acts (is_some result)) }
     {
@@ -225,12 +227,13 @@ impl Held {
 
     // What a take or a drain in progress finds.
     fn find_answer(&mut self, setup: &Setup) -> Option<LogAnswer>
-        requires { HasRoom self.old }
+        requires lawful { IsLawfulSetup setup.now }
+        requires room { HasRoom self.old }
         ensures value { result ≡ due_to self.old (current setup.now self.old) }
         ensures state { self.new ≡ (if is_some result then record self.old { ends = ends_answered self.old (current setup.now self.old) None } else self.old) }
     {
         match self.current(setup)? {
-            Command::Take {
+            ChannelCommand::Take {
                 partner,
                 channel,
                 ..
@@ -238,10 +241,10 @@ impl Held {
                 let end = &mut self.ends[partner.get() as usize][channel.get() as usize];
                 Some(LogAnswer::Take(end.answer()?))
             }
-            Command::Drain { partner, channel } => self
+            ChannelCommand::Drain { partner, channel } => self
                 .end(partner.get() as usize, channel.get() as usize)
                 .drained(),
-            Command::Send { .. } | Command::Release { .. } => None,
+            ChannelCommand::Send { .. } | ChannelCommand::Release { .. } => None,
         }
     }
 
@@ -272,10 +275,11 @@ impl Held {
 
     /// Which record a take in progress is about.
     pub fn take_place(&self, setup: &Setup) -> Option<usize>
+        requires { IsLawfulSetup setup.now }
         ensures { result ≡ take_place self.now (current setup.now self.now) }
     {
         match self.current(setup)? {
-            Command::Take {
+            ChannelCommand::Take {
                 partner,
                 channel,
                 ..
@@ -283,7 +287,9 @@ impl Held {
                 self.end(partner.get() as usize, channel.get() as usize)
                     .record_number(),
             ),
-            Command::Send { .. } | Command::Release { .. } | Command::Drain { .. } => None,
+            ChannelCommand::Send { .. }
+            | ChannelCommand::Release { .. }
+            | ChannelCommand::Drain { .. } => None,
         }
     }
 

@@ -6,9 +6,9 @@ ghost use Rattle.xp_node.specs.Kept.{logged_of, log_room, least, records_room, k
 
 use std::alloc::{AllocError, Global};
 use xp_base::body::Body;
-use xp_rules::log::{Entry, LogAnswer};
 use xp_rules::records::Record;
-use xp_rules::setup::Link;
+use xp_script::log::{Entry, LogAnswer};
+use xp_script::part::Link;
 
 /// The commands that were begun, with their answers, and the records of the connections.
 #[derive(Drop)]

@@ -2,7 +2,9 @@
 ghost use Rattle.std.specs.Prelude.{◌≡◌, ℕ, ◌<◌, ◌≤◌, ◌+◌, ◌-◌, ◌*◌, [], ◌∷◌, ◌++◌, length, true, false, Some, None, IfSome, IfNone, IfOk, IsSome, MatchOption, OnOk, map, slice_get, vec_len, vec_capacity};
 ghost use Rattle.xp_rules.specs.Setup.{IsLawfulSetup, fails_at, is_among};
 ghost use Rattle.xp_rules.specs.Records.{seen};
-ghost use Rattle.xp_rules.specs.Scenario.{IsLawful, setup_of};
+ghost use Rattle.xp_rules.specs.Scenario.{setup_of};
+ghost use Rattle.xp_script.specs.Lawful.{IsLawful};
+ghost use Rattle.xp_script.specs.Built.{IsBuilt};
 ghost use Rattle.xp_rules.specs.Runs.{Runs, is_done, is_failed};
 ghost use Rattle.xp_rules.specs.Windows.{Windows};
 ghost use Rattle.xp_rules.specs.State.{start};
@@ -18,11 +20,11 @@ use std::alloc::{AllocError, Global};
 use std::marker::Model;
 use xp_base::ids::PartId;
 use xp_base::step::{Answer, CopyMark, Step, Wanted};
-use xp_rules::log::Entry;
 use xp_rules::records::Record;
-use xp_rules::scenario::Scenario;
-use xp_rules::setup::Setup;
-use xp_script::setting::setup_for;
+use xp_rules::setup::{Setup, setup_for};
+use xp_script::log::Entry;
+use xp_script::scenario::Scenario;
+use xp_script::setting::Faults;
 
 // For how many turns room is made at once.
 const TURNS_AHEAD: u8 = 8;
@@ -59,6 +61,7 @@ impl Node {
     /// A partition of a scenario, before its first turn.
     pub fn new(alloc: Global, scenario: &Scenario, part: PartId) -> Result<Node, AllocError>
         requires lawful { IsLawful scenario.now }
+        requires built { IsBuilt scenario.now }
         requires part { part < scenario.now.count }
         ensures setup { IfOk result (λ node. node.setup ≡ setup_of scenario.now part) }
         ensures turns { IfOk result (λ node. node.turns ≡ []) }
@@ -75,7 +78,7 @@ impl Node {
         ensures waiting { IfOk result (λ node. node.waiting ≡ None) }
     {
         let held = Held::new(&setup);
-        let kept = Kept::new(alloc, setup.links.as_slice())?;
+        let kept = Kept::new(alloc, &setup.links.list)?;
         let done = held.is_done(&setup);
         Ok(Node {
             setup,
@@ -230,7 +233,7 @@ impl Node {
     pub fn fails(&self, mark: CopyMark) -> bool
         ensures { result ≡ is_among mark self.now.setup.faults }
     {
-        self.setup.faults.contains(mark)
+        is_named(&self.setup.faults, mark)
     }
 
     /// The number of the partition.
@@ -274,6 +277,18 @@ impl Node {
     }
 }
 
+// Whether one of the lines says that the load of a mark fails.
+fn is_named(faults: &Faults, mark: CopyMark) -> bool
+    ensures { result ≡ is_among mark faults.now }
+{
+    for fault in &faults.list {
+        if fault.names(mark) {
+            return true;
+        }
+    }
+    false
+}
+
 // The place in the circle that comes next. It stays where there are no links.
 fn place_after(setup: &Setup, place: u16) -> u16
     requires lawful { IsLawfulSetup setup.now }
@@ -281,7 +296,7 @@ fn place_after(setup: &Setup, place: u16) -> u16
     ensures { result ≡ next_place setup.now place }
 {
     let next = place + 1;
-    if (next as usize) < 8 * setup.links.as_slice().len() {
+    if (next as usize) < 8 * setup.links.list.len() {
         next
     } else {
         0

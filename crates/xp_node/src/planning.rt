@@ -5,59 +5,63 @@ ghost use Rattle.xp_node.specs.Held.{EndMakes};
 ghost use Rattle.xp_duties.specs.Plan.{end_plan};
 
 use xp_channel::end::LinkEnd;
-use xp_rules::commands::Command;
+use xp_rules::commands::ChannelCommand;
 use xp_rules::rule::Rule;
 
 /// The partner and the channel that a command names, as places of the end.
-pub fn target(command: &Command) -> (usize, usize)
+pub fn target(command: &ChannelCommand) -> (usize, usize)
+    requires { partner_named command.now < 8 }
     ensures partner { result.0 ≡ partner_named command.now }
     ensures channel { result.1 ≡ channel_named command.now }
     ensures low_partner { result.0 < 8 }
     ensures low_channel { result.1 < 4 }
 {
     match command {
-        Command::Send {
+        ChannelCommand::Send {
             partner,
             channel,
             ..
         }
-        | Command::Take {
+        | ChannelCommand::Take {
             partner,
             channel,
             ..
         }
-        | Command::Release {
+        | ChannelCommand::Release {
             partner,
             channel,
             ..
         }
-        | Command::Drain { partner, channel } => (partner.get() as usize, channel.get() as usize),
+        | ChannelCommand::Drain { partner, channel } => (
+            partner.get() as usize,
+            channel.get() as usize,
+        ),
     }
 }
 
 /// The step that an end makes next for a command in progress.
-pub fn plan_for(end: &LinkEnd, command: &Command, partner: u8, channel: u8) -> Option<Rule>
+pub fn plan_for(end: &LinkEnd, command: &ChannelCommand, partner: u8, channel: u8) -> Option<Rule>
     requires partner { partner ≡ partner_named command.now }
     requires channel { channel ≡ channel_named command.now }
     ensures plan { result ≡ end_plan end.now command.now }
     ensures makes { IfSome result (λ rule. EndMakes end.now partner channel rule) }
 {
     match command {
-        Command::Send { .. } => {
+        ChannelCommand::Send { .. } => {
             let rule = end.plan_send()?;
             Some(Rule::Ring(partner, channel, rule))
         }
-        Command::Take { .. } => {
+        ChannelCommand::Take { .. } => {
             let rule = end.plan_take()?;
             Some(Rule::Pull(partner, channel, rule))
         }
-        Command::Release { .. } => {
+        ChannelCommand::Release { .. } => {
             if end.owes_get() {
                 Some(Rule::Acknowledge(partner, channel))
             } else {
                 None
             }
         }
-        Command::Drain { .. } => None,
+        ChannelCommand::Drain { .. } => None,
     }
 }

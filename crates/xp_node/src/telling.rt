@@ -14,20 +14,20 @@ use crate::kept::{Kept, accept_into, acknowledge_into, answer_last, deliver_into
 use crate::turns::Told;
 use xp_base::answer::TakeAnswer;
 use xp_base::step::Answer;
-use xp_rules::commands::Command;
-use xp_rules::log::{Entry, LogAnswer, Verb};
+use xp_rules::commands::ChannelCommand;
 use xp_rules::records::Record;
 use xp_rules::rule::{RingRule, Rule};
 use xp_rules::setup::Setup;
+use xp_script::log::{Entry, LogAnswer, Verb};
 
-fn verb_of(command: &Command) -> Verb
+fn verb_of(command: &ChannelCommand) -> Verb
     ensures { result ≡ verb_of command.now }
 {
     match command {
-        Command::Send { .. } => Verb::Send,
-        Command::Take { .. } => Verb::Take,
-        Command::Release { .. } => Verb::Release,
-        Command::Drain { .. } => Verb::Drain,
+        ChannelCommand::Send { .. } => Verb::Send,
+        ChannelCommand::Take { .. } => Verb::Take,
+        ChannelCommand::Release { .. } => Verb::Release,
+        ChannelCommand::Drain { .. } => Verb::Drain,
     }
 }
 
@@ -81,6 +81,7 @@ pub fn note_step(held: &Held, rule: Rule, answer: &Answer, records: &mut Vec<Rec
 
 /// Tells what is due after a step: the notices at its end, the lowest number first, and then the answer of the command in progress.
 pub fn tell(setup: &Setup, held: &mut Held, kept: &mut Kept, rule: Rule) -> Told
+    requires lawful { IsLawfulSetup setup.now }
     requires partner { partner_of rule < 8 }
     requires channel { channel_of rule < 4 }
     requires warm { IsWarmAt held.old rule }
@@ -88,12 +89,12 @@ pub fn tell(setup: &Setup, held: &mut Held, kept: &mut Kept, rule: Rule) -> Told
     requires room { HasRoom held.old }
     requires taken { 0 < least taken_room kept.old.records.items }
     requires delivered { 8 ≤ least delivered_room kept.old.records.items }
-    ensures state { held.new ≡ after_acts setup.now held.old (told_acts (Some rule) result.noticed result.answered) }
-    ensures may { MayActs setup.now held.old (told_acts (Some rule) result.noticed result.answered) }
+    ensures state { held.new ≡ after_acts setup.now held.old (told_acts held.old (Some rule) result.noticed result.answered) }
+    ensures may { MayActs setup.now held.old (told_acts held.old (Some rule) result.noticed result.answered) }
     ensures due { IsSome (due setup.now held.old) → result.answered ≡ true }
     ensures told { must_answer held.new ≡ false }
     ensures noticed { IsNoticed held.new }
-    ensures logged { logged_of kept.new ≡ logged_acts setup.now held.old (told_acts (Some rule) result.noticed result.answered) (logged_of kept.old) }
+    ensures logged { logged_of kept.new ≡ logged_acts setup.now held.old (told_acts held.old (Some rule) result.noticed result.answered) (logged_of kept.old) }
     ensures log_room { log_room kept.new ≡ log_room kept.old }
     ensures room { Falls kept.old.records.items kept.new.records.items 0 1 0 8 }
 {
@@ -146,6 +147,7 @@ fn give_notices(held: &mut Held, kept: &mut Kept, q: u8, c: u8) -> u8
 
 /// Gives the answer that is due, and notes it; whether one was.
 pub fn answer_next(setup: &Setup, held: &mut Held, kept: &mut Kept) -> bool
+    requires lawful { IsLawfulSetup setup.now }
     requires room { HasRoom held.old }
     requires taken { 0 < least taken_room kept.old.records.items }
     ensures state { held.new ≡ after_acts setup.now held.old (answered_acts result) }
@@ -168,7 +170,8 @@ pub fn answer_next(setup: &Setup, held: &mut Held, kept: &mut Kept) -> bool
 
 // A message that was taken stands in the record of its end.
 fn note_taken(setup: &Setup, held: &Held, answer: &LogAnswer, records: &mut Vec<Record>)
-    requires { 0 < least taken_room records.old.items }
+    requires lawful { IsLawfulSetup setup.now }
+    requires taken { 0 < least taken_room records.old.items }
     ensures seen { map seen records.new.items ≡ taken_at (take_place held.now (current setup.now held.now)) (Some answer.now) (map seen records.old.items) }
     ensures room { Falls records.old.items records.new.items 0 1 0 0 }
 {

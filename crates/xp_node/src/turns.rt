@@ -4,7 +4,7 @@ use xp_rules::rule::Rule;
 
 /// What is kept of a turn: whether it began a command, the rule of its step where it made one, how many notices it gave at the end of
 /// that step, and whether it answered a command.
-#[derive(Clone, Copy, Debug, PartialEq, Eq)]
+#[derive(Clone, Copy)]
 pub struct Made {
     pub began: bool,
     pub rule: Option<Rule>,
@@ -13,14 +13,14 @@ pub struct Made {
 }
 
 /// What a turn told after its step: how many notices, and whether it answered a command.
-#[derive(Clone, Copy, Debug, PartialEq, Eq)]
+#[derive(Clone, Copy)]
 pub struct Told {
     pub noticed: u8,
     pub answered: bool,
 }
 
 /// A turn that waits for the answer of its step: the step's rule, what it does, and whether the turn began a command.
-#[derive(Clone, Copy, Debug, PartialEq, Eq)]
+#[derive(Clone, Copy)]
 pub struct Waiting {
     pub rule: Rule,
     pub op: Op,
@@ -28,7 +28,7 @@ pub struct Waiting {
 }
 
 /// How a partition ended.
-#[derive(Clone, Copy, Debug, PartialEq, Eq)]
+#[derive(Clone, Copy)]
 pub enum Ended {
     /// Its script is answered to the end, and nothing is owed.
     Done,

@@ -1,7 +1,12 @@
 -- The written turns, one round and one line more.
-use Rattle.std.proofs.Common.{◌≡◌, ℕ, zero, suc, ◌+◌, ◌<◌, List, [], ◌∷◌, ◌++◌, length, get_or, take, refl, ap, sym, ◌∙◌, arith, add-one, append-nil, append_assoc}
-use Rattle.std.proofs.lemmas.List.{take_more}
-use Rattle.xp_rules.specs.Scenario.{one_round, some_rounds, written_lines}
+use Rattle.std.proofs.Common.{◌≡◌, ℕ, zero, suc, ◌+◌, List, [], ◌∷◌, ◌++◌, get_or, take, refl, ap, sym, ◌∙◌, arith, add-one, append-nil, append_assoc, replicate, subst, Some}
+use Rattle.std.specs.List.{slice_get}
+use Rattle.std.specs.List.{AllByRecursion}
+use Rattle.std.proofs.lemmas.List.{take_more, replicate-append-replicate}
+use Rattle.std.proofs.lemmas.Option.{slice_get_within, slice_get-get_or, same_Some}
+use Rattle.xp_script.specs.declared.schedule.Plan.{Plan}
+use Rattle.xp_script.specs.Lawful.{IsLawfulPlan}
+use Rattle.xp_script.specs.Turns.{one_round, some_rounds, plan_parts, written_plans}
 
 one_round-push : (p n : ℕ) → one_round p (suc n) ≡ one_round p n ++ (p + n) ∷ []
 unfolding one_round
@@ -27,11 +32,26 @@ pub some_rounds-more : (count n : ℕ) → some_rounds count (n + 1) ≡ some_ro
 unfolding some_rounds
 some_rounds-more count n = ap (some_rounds count) (add-one n)
 
-written_lines-push : (count : ℕ) (xs : List ℕ) (n : ℕ) → written_lines count (xs ++ n ∷ []) ≡ written_lines count xs ++ some_rounds count n
-written_lines-push count [] n = append-nil (some_rounds count n)
-written_lines-push count (x ∷ xs) n =
-    ap (λ (ys : List ℕ). some_rounds count x ++ ys) (written_lines-push count xs n) ∙ sym (append_assoc (some_rounds count x) (written_lines count xs) (some_rounds count n))
+written_plans-push : (count : ℕ) (xs : List Plan) (x : Plan) → written_plans count (xs ++ x ∷ []) ≡ written_plans count xs ++ plan_parts count x
+written_plans-push count [] x = append-nil (plan_parts count x)
+written_plans-push count (y ∷ ys) x =
+    ap (λ (zs : List ℕ). plan_parts count y ++ zs) (written_plans-push count ys x) ∙ sym (append_assoc (plan_parts count y) (written_plans count ys) (plan_parts count x))
 
-pub written_lines-more : (count : ℕ) (lines : List ℕ) (i : ℕ) → i < length lines → written_lines count (take (i + 1) lines) ≡ written_lines count (take i lines) ++ some_rounds count (get_or lines i 0)
-written_lines-more count lines i h =
-    ap (written_lines count) (take_more lines i 0 h) ∙ written_lines-push count (take i lines) (get_or lines i 0)
+taken_more : (plans : List Plan) (i : ℕ) (x : Plan) → slice_get plans i ≡ Some x → take (i + 1) plans ≡ take i plans ++ x ∷ []
+taken_more plans i x e =
+    let low = slice_get_within plans i x e in
+    let same : get_or plans i x ≡ x = same_Some (get_or plans i x) x (sym (slice_get-get_or plans i x low) ∙ e) in
+    take_more plans i x low ∙ ap (λ (y : Plan). take i plans ++ y ∷ []) same
+
+pub written_plans-more : (count : ℕ) (plans : List Plan) (i : ℕ) (x : Plan) → slice_get plans i ≡ Some x → written_plans count (take (i + 1) plans) ≡ written_plans count (take i plans) ++ plan_parts count x
+written_plans-more count plans i x e = ap (written_plans count) (taken_more plans i x e) ∙ written_plans-push count (take i plans) x
+
+-- a line of a lawful schedule is lawful
+pub plan_lawful : (count : ℕ) (plans : List Plan) (i : ℕ) (x : Plan) → AllByRecursion (IsLawfulPlan count) plans → slice_get plans i ≡ Some x → IsLawfulPlan count x
+plan_lawful count [] i x h e = absurd cc
+plan_lawful count (y ∷ ys) zero x h e = let d : y ≡ x = cc in subst (λ (z : Plan). IsLawfulPlan count z) d h.0
+plan_lawful count (y ∷ ys) (suc i) x h e = plan_lawful count ys i x h.1 e
+
+-- one turn more of a partition
+pub turns-more : (p n : ℕ) → replicate (n + 1) p ≡ replicate n p ++ p ∷ []
+turns-more p n = sym (replicate-append-replicate n 1 p)

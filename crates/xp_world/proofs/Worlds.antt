@@ -10,10 +10,11 @@ use Rattle.xp_base.specs.Memory.{Memory}
 use Rattle.xp_base.specs.History.{Turn, Event, Poked, Turned, Legal, turns_of}
 use Rattle.xp_base.proofs.HistoryLemmas.{Legal-push, turns_of-append}
 use Rattle.xp_rules.specs.declared.setup.Setup.{Setup}
-use Rattle.xp_rules.specs.declared.scenario.Scenario.{Scenario}
+use Rattle.xp_script.specs.declared.scenario.Scenario.{Scenario}
 use Rattle.xp_rules.specs.State.{start}
 use Rattle.xp_rules.specs.Runs.{Runs, IsDone, state_after}
-use Rattle.xp_rules.specs.Scenario.{setup_of, opening}
+use Rattle.xp_rules.specs.Scenario.{setup_of}
+use Rattle.xp_script.specs.Opening.{opening}
 use Rattle.xp_rules.specs.Reached.{AreTurnsOf, ReachedWords, HasEnded, Follows}
 use Rattle.xp_node.specs.Node.{NodeView, IsEnded}
 use Rattle.xp_world.specs.declared.world.World.{World}

@@ -1,5 +1,5 @@
 -- One turn of a node over the words of all.
-use Rattle.std.specs.Prelude.{◌≡◌, ◌⊎◌, [], ◌∷◌, ◌++◌, None}
+use Rattle.std.specs.Prelude.{◌≡◌, ◌⊎◌, [], ◌∷◌, ◌++◌, None, ◌≤◌}
 use Rattle.xp_base.specs.Memory.{Memory}
 use Rattle.xp_base.specs.History.{Turn, IsAnswered, after_made}
 use Rattle.xp_rules.specs.Runs.{Runs}
@@ -10,6 +10,7 @@ pub record IsSameNode (old new : NodeView) : Type 0 where
   pub setup : new.setup ≡ old.setup
   pub turns : new.turns ≡ old.turns
   pub waiting : new.waiting ≡ old.waiting
+  pub room : old.room ≤ new.room
 
 -- the node makes one turn, whose step the words answer; the words after it are those that the step leaves
 pub record TurnsOnce (m : Memory) (n : NodeView) (m' : Memory) (n' : NodeView) : Type 0 where

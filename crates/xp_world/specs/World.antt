@@ -1,9 +1,9 @@
 -- Worlds that a history reaches, and the turns that lead from one world to another.
 use Rattle.std.specs.Prelude.{◌≡◌, ℕ, List, [], ◌∷◌, length, Some, None, slice_get, slice_set}
 use Rattle.xp_base.specs.History.{Event, turns_of}
-use Rattle.xp_rules.specs.declared.scenario.Scenario.{Scenario}
+use Rattle.xp_script.specs.declared.scenario.Scenario.{Scenario}
 use Rattle.xp_rules.specs.Runs.{Runs}
-use Rattle.xp_rules.specs.Scenario.{setup_of, IsLawful}
+use Rattle.xp_rules.specs.Scenario.{setup_of, CanRun}
 use Rattle.xp_rules.specs.Reached.{ReachedWords, Follows, Scheduled}
 use Rattle.xp_rules.specs.Promised.{KeepsPromises}
 use Rattle.xp_rules.specs.Windows.{Windows}
@@ -79,9 +79,10 @@ pub record IsSameWorld (old new : World) (p : ℕ) : Type 0 where
 abbrev pub StaysReached : World → World → Type 0
 StaysReached old new = (s : Scenario) (h : List Event) → Reached s h old → (g : List Event) × Reached s g new
 
--- where some history of a lawful scenario reaches the one, some history reaches the other, and all that is promised of a history holds of it
+-- where some history of a lawful scenario that the rules can run reaches the one, some history reaches the other, and all
+-- that is promised of a history holds of it
 abbrev pub StaysPromised : World → World → Type 0
-StaysPromised old new = (s : Scenario) (h : List Event) → IsLawful s → Reached s h old → (g : List Event) × Reached s g new × KeepsPromises s g
+StaysPromised old new = (s : Scenario) (h : List Event) → CanRun s → Reached s h old → (g : List Event) × Reached s g new × KeepsPromises s g
 
 -- these partitions take a turn, one after the other
 abbrev pub TakeTurns : List ℕ → World → World → Type 0

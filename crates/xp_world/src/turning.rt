@@ -1,5 +1,6 @@
 // One turn of one node.
 ghost use Rattle.std.specs.Prelude.{◌≡◌, ◌<◌, length, OnOk, OnErr, None};
+ghost use Rattle.xp_base.specs.declared.layout.TheConstants.{PART_WORDS};
 ghost use Rattle.xp_base.specs.Memory.{word_at, answer_of, memory_after};
 ghost use Rattle.xp_base.specs.History.{IsAnswer, after_answer};
 ghost use Rattle.xp_rules.specs.Setup.{fails_at};
@@ -15,7 +16,7 @@ use xp_node::node::Node;
 // Makes a step on the words, and gives its answer.
 fn perform(words: &mut Words, op: Op) -> u64
     requires owner { op.owner < length words.old }
-    requires index { op.index < 5912 }
+    requires index { op.index < PART_WORDS }
     ensures words { words.new ≡ memory_after words.old op }
     ensures answer { result ≡ answer_of op.kind (word_at words.old op.owner op.index) }
     ensures count { length words.new ≡ length words.old }

@@ -1,6 +1,10 @@
 // All partitions and their words, turn by turn.
-ghost use Rattle.std.specs.Prelude.{◌≡◌, ◌<◌, [], length, IfOk, OnOk, OnErr};
-ghost use Rattle.xp_rules.specs.Scenario.{IsLawful, one_round, some_rounds, written_lines};
+ghost use Rattle.std.specs.Prelude.{◌≡◌, ◌<◌, [], length, replicate, IfOk, OnOk, OnErr};
+ghost use Rattle.std.specs.List.{AllByRecursion};
+ghost use Rattle.xp_script.specs.Lawful.{IsLawful, IsLawfulPlan};
+ghost use Rattle.xp_script.specs.Built.{IsBuilt};
+ghost use Rattle.xp_script.specs.Totals.{plans_of};
+ghost use Rattle.xp_script.specs.Turns.{one_round, some_rounds, plan_parts, written_plans};
 ghost use Rattle.xp_world.specs.World.{Reached, Replayed, KeepWindows, AreNew, IsReady, WorldTurns, IsSameWorld, StaysReached, StaysPromised, TakeTurns};
 
 use crate::turning::turn_node;
@@ -9,8 +13,8 @@ use xp_base::ids::PartId;
 use xp_base::words::Words;
 use xp_laws::promises::promises_kept;
 use xp_node::node::Node;
-use xp_rules::scenario::{Scenario, Schedule};
-use xp_script::opening::opening;
+use xp_script::scenario::Scenario;
+use xp_script::schedule::{Plan, Schedule};
 
 /// The partitions of a scenario and the words of their memories.
 #[derive(Drop)]
@@ -22,12 +26,13 @@ pub struct World {
 impl World {
     /// The world before the first turn.
     pub fn open(alloc: Global, scenario: &Scenario) -> Result<World, AllocError>
-        requires { IsLawful scenario.now }
+        requires lawful { IsLawful scenario.now }
+        requires built { IsBuilt scenario.now }
         ensures reached { IfOk result (λ world. Reached scenario.now [] world) }
         ensures ready { IfOk result (λ world. IsReady world) }
     {
         Ok(World {
-            words: opening(alloc, scenario)?,
+            words: scenario.opening(alloc)?,
             nodes: new_nodes(alloc, scenario)?,
         })
     }
@@ -72,28 +77,78 @@ impl World {
         Ok(())
     }
 
-    // The turns that the lines of a schedule give.
-    fn follow(&mut self, schedule: &Schedule) -> Result<(), AllocError>
-        requires { IsReady self.old }
-        ensures ok { OnOk result (TakeTurns (written_lines (length self.old.nodes.items) schedule.now) self.old self.new) }
+    // So many turns of one partition.
+    fn turns(&mut self, part: PartId, turns: u64) -> Result<(), AllocError>
+        requires part { part < length self.old.nodes.items }
+        requires ready { IsReady self.old }
+        ensures ok { OnOk result (TakeTurns (replicate turns part) self.old self.new) }
         ensures ready { IsReady self.new }
         ensures count { length self.new.nodes.items ≡ length self.old.nodes.items }
     {
-        for rounds in &schedule.rounds {
-            self.rounds(*rounds)?;
+        for _turn in 0..turns {
+            self.turn(part)?;
         }
         Ok(())
     }
 
-    /// The world after the written turns. Its history keeps all that is promised.
+    // The turns that one line of a schedule gives.
+    fn follow_plan(&mut self, plan: &Plan) -> Result<(), AllocError>
+        requires plan { IsLawfulPlan (length self.old.nodes.items) plan.now }
+        requires ready { IsReady self.old }
+        ensures ok { OnOk result
+            (TakeTurns (plan_parts (length self.old.nodes.items) plan.now) self.old self.new) }
+        ensures ready { IsReady self.new }
+        ensures count { length self.new.nodes.items ≡ length self.old.nodes.items }
+    {
+        match plan {
+            Plan::Turns { part, turns } => self.turns(*part, *turns),
+            Plan::Rounds(rounds) => self.rounds(*rounds),
+        }
+    }
+
+    // The turns that the lines of a schedule give.
+    fn follow(&mut self, schedule: &Schedule) -> Result<(), AllocError>
+        requires plans { AllByRecursion (IsLawfulPlan (length self.old.nodes.items)) schedule.now }
+        requires ready { IsReady self.old }
+        ensures ok { OnOk result
+            (TakeTurns (written_plans (length self.old.nodes.items) schedule.now) self.old self.new) }
+        ensures ready { IsReady self.new }
+        ensures count { length self.new.nodes.items ≡ length self.old.nodes.items }
+    {
+        for plan in &schedule.list {
+            self.follow_plan(plan)?;
+        }
+        Ok(())
+    }
+
+    // The written turns: none where there is no schedule.
+    fn follow_written(&mut self, schedule: &Option<Schedule>) -> Result<(), AllocError>
+        requires plans { AllByRecursion (IsLawfulPlan (length self.old.nodes.items))
+            (plans_of schedule.now) }
+        requires ready { IsReady self.old }
+        ensures ok { OnOk result (TakeTurns
+            (written_plans (length self.old.nodes.items) (plans_of schedule.now))
+            self.old self.new) }
+        ensures ready { IsReady self.new }
+        ensures count { length self.new.nodes.items ≡ length self.old.nodes.items }
+    {
+        match schedule {
+            Some(schedule) => self.follow(schedule),
+            None => Ok(()),
+        }
+    }
+
+    /// The world after the turns of the schedule, or after none where there is no schedule. Its
+    /// history keeps all that is promised.
     pub fn replay(alloc: Global, scenario: &Scenario) -> Result<World, AllocError>
-        requires { IsLawful scenario.now }
+        requires lawful { IsLawful scenario.now }
+        requires built { IsBuilt scenario.now }
         ensures replayed { IfOk result (λ world. Replayed scenario.now world) }
         ensures ready { IfOk result (λ world. IsReady world) }
     {
         promises_kept();
         let mut world = World::open(alloc, scenario)?;
-        world.follow(&scenario.schedule)?;
+        world.follow_written(&scenario.schedule)?;
         windows_kept(&world.nodes);
         Ok(world)
     }
@@ -110,12 +165,13 @@ fn windows_kept(nodes: &[Node])
 
 // The partitions of a scenario, before their first turns.
 fn new_nodes(alloc: Global, scenario: &Scenario) -> Result<Vec<Node>, AllocError>
-    requires { IsLawful scenario.now }
+    requires lawful { IsLawful scenario.now }
+    requires built { IsBuilt scenario.now }
     ensures nodes { IfOk result (λ nodes. AreNew scenario.now nodes.items) }
     ensures count { IfOk result (λ nodes. length nodes.items ≡ scenario.now.count) }
 {
     let mut nodes = Vec::new(alloc);
-    for number in 0..scenario.count {
+    for number in 0..scenario.count.get() {
         let node = Node::new(alloc, scenario, PartId::known(number))?;
         nodes.push(node)?;
     }

@@ -34,7 +34,7 @@ impl Held {
         if place % 2 == 1 {
             return None;
         }
-        let link = setup.links.as_slice().get((place / 8) as usize)?;
+        let link = setup.links.list.as_slice().get((place / 8) as usize)?;
         let partner = link.partner.get();
         let channel = link.channel.get();
         if self.is_barred(partner as usize) {

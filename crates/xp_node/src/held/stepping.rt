@@ -15,9 +15,9 @@ use xp_base::answer::ReleaseAnswer;
 use xp_base::reason::Reason;
 use xp_base::step::{Answer, CopyKind};
 use xp_rules::copies::Copies;
-use xp_rules::log::LogAnswer;
 use xp_rules::rule::{PullRule, RingRule, Rule};
 use xp_rules::setup::Setup;
+use xp_script::log::LogAnswer;
 
 impl Held {
     /// Takes the answer of a rule's step.

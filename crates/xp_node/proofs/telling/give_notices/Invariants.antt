@@ -1,4 +1,4 @@
-use Rattle.std.proofs.Common.{◌≡◌, ◌+◌, length, true}
+use Rattle.std.proofs.Common.{◌≡◌, ◌+◌, length, drop, true}
 use Rattle.xp_rules.specs.State.{end_of}
 use Rattle.xp_node.specs.Held.{IsNoticedBut}
 use Rattle.xp_node.specs.Kept.{logged_of, Falls, Gives}
@@ -8,6 +8,7 @@ abbrev pub invariant-loop-count : goal.invariant-loop-count
 invariant-loop-count l = record {
   gives : Gives l.initial.held l.held (logged_of l.initial.kept) (logged_of l.kept) l.q l.c l.count;
   left : length (end_of l.held l.q l.c).asked + l.count ≡ length (end_of l.initial.held l.q l.c).asked;
+  rest : drop l.count (end_of l.initial.held l.q l.c).asked ≡ (end_of l.held l.q l.c).asked;
   warm : (end_of l.held l.q l.c).warm ≡ true;
   noticed : IsNoticedBut l.q l.c l.held;
   place : (end_of l.held l.q l.c).record_number ≡ l.place;

@@ -1,7 +1,7 @@
 use Rattle.std.proofs.Common.{sym, subst}
 use Rattle.xp_rules.specs.State.{State}
 use Rattle.xp_rules.specs.Rules.{partner_of}
-use Rattle.xp_node.specs.Held.{HasRoom, channel_of}
+use Rattle.xp_node.specs.Held.{HasRoom, channel_of, first_asked}
 use Rattle.xp_node.specs.Kept.{logged_of}
 use Rattle.xp_node.proofs.Steps.{room_noticed}
 use Rattle.xp_node.proofs.Noticing.{answered_noticed}
@@ -12,7 +12,7 @@ use Rattle.xp_node.proofs.telling.tell.Goals as goal
 pub answer_next-answered-requires-clause-room : goal.answer_next-answered-requires-clause-room
 answer_next-answered-requires-clause-room c =
     let g = c.notice_at-noticed.ensures.gives in
-    subst (λ (x : State). HasRoom x) (sym (g.state c.args.setup.now)) (room_noticed c.args.setup.now c.args.held.now (partner_of c.args.rule) (channel_of c.args.rule) c.notice_at-noticed.result c.requires.room)
+    subst (λ (x : State). HasRoom x) (sym (g.state c.args.setup.now)) (room_noticed c.args.setup.now c.args.held.now (partner_of c.args.rule) (channel_of c.args.rule) (first_asked c.args.held.now (partner_of c.args.rule) (channel_of c.args.rule) c.notice_at-noticed.result) c.requires.room)
 
 pub returns-clause-state : goal.returns-clause-state
 returns-clause-state c =

@@ -1,8 +1,11 @@
 use Rattle.std.proofs.Common.{sym}
 use Rattle.std.proofs.lemmas.Option.{slice_get_within}
 use Rattle.xp_rules.proofs.Lawful.{lawful_command}
-use Rattle.xp_node.proofs.Lawful.{short}
+use Rattle.xp_node.proofs.Lawful.{short, command_low}
 use Rattle.xp_node.proofs.held.Held.begin_next.Goals as goal
+
+pub begin-requires-clause-partner : goal.begin-requires-clause-partner
+begin-requires-clause-partner c = command_low c.args.setup.now c.self.inside.begun c.in-Some.command.now c.requires.lawful (sym (c.in-Some.ensures))
 
 pub begin-requires-clause-short : goal.begin-requires-clause-short
 begin-requires-clause-short c =

@@ -1,9 +1,13 @@
-use Rattle.std.proofs.Common.{sym, ap, subst, ◌∙◌}
+use Rattle.std.proofs.Common.{◌-◌, sym, ap, subst, ◌∙◌}
 use Rattle.std.specs.Prelude.{IfSome}
 use Rattle.xp_rules.specs.State.{End}
 use Rattle.xp_node.specs.Held.{EndMakes}
 use Rattle.xp_node.proofs.Plans.{planned}
+use Rattle.xp_node.proofs.Lawful.{command_low}
 use Rattle.xp_node.proofs.held.Held.plan_script.Goals as goal
+
+pub target-partner-requires : goal.target-partner-requires
+target-partner-requires c = command_low c.args.setup.now (c.args.self.now.script.begun - 1) c.in_ok-command.command.now c.requires.lawful (sym c.in_ok-command.ensures)
 
 pub returns-clause-can : goal.returns-clause-can
 returns-clause-can c =

@@ -1,24 +1,29 @@
-use Rattle.std.proofs.Common.{◌≡◌, ℕ, ◌<◌, List, length, get_or, take, sym, ◌∙◌, subst}
-use Rattle.xp_rules.specs.Scenario.{some_rounds, written_lines}
+use Rattle.std.proofs.Common.{◌≡◌, ℕ, List, length, take, refl, sym, ◌∙◌, subst, Some}
+use Rattle.std.specs.List.{slice_get}
+use Rattle.std.proofs.lemmas.Option.{slice_get_read}
+use Rattle.xp_script.specs.declared.schedule.Plan.{Plan}
+use Rattle.xp_script.specs.Turns.{plan_parts, written_plans}
 use Rattle.xp_world.specs.World.{TakeTurns}
-use Rattle.xp_world.proofs.Schedules.{written_lines-more}
+use Rattle.xp_world.proofs.Schedules.{written_plans-more}
 use Rattle.xp_world.proofs.Worlds.{TakeTurns-append}
 use Rattle.xp_world.proofs.world.World.follow.Goals as goal
 
-pub loop-rounds-preserved : goal.loop-rounds-preserved
-loop-rounds-preserved c =
+pub loop-plan-preserved : goal.loop-plan-preserved
+loop-plan-preserved c =
     let old = c.args.self.now in
-    let mid = c.loop-rounds.self in
-    let new = c.rounds.new.self in
+    let mid = c.loop-plan.self in
+    let new = c.follow_plan.new.self in
     let count = length old.nodes.items in
-    let lines = c.args.schedule.now in
-    let i = c.loop-rounds.rounds-index in
-    let same : c.deref-rounds-items.result.now ≡ lines = c.deref-rounds-items.ensures.value ∙ c.schedule.view_is in
-    let low = subst (λ (xs : List ℕ). i < length xs) same c.loop-rounds-test.true in
-    let made = subst (λ (k : ℕ). TakeTurns (some_rounds k (get_or c.deref-rounds-items.result.now i 0)) mid new) c.loop-rounds.invariant.count c.in_ok-rounds.ensures.ok in
-    let line = subst (λ (xs : List ℕ). TakeTurns (some_rounds count (get_or xs i 0)) mid new) same made in
-    let turns = TakeTurns-append (written_lines count (take i lines)) (some_rounds count (get_or lines i 0)) old mid new c.loop-rounds.invariant.turns line in record {
-      turns = subst (λ (ps : List ℕ). TakeTurns ps old new) (sym (written_lines-more count lines i low)) turns;
-      ready = c.rounds.ensures.ready;
-      count = c.rounds.ensures.count ∙ c.loop-rounds.invariant.count;
+    let plans = c.args.schedule.now in
+    let i = c.loop-plan.plan-index in
+    let plan = c.plan-item.result in
+    let same : c.deref-plan-items.result.now ≡ plans = c.deref-plan-items.ensures.value ∙ c.schedule.view_is in
+    let items = c.deref-plan-items.result.now in
+    let found = slice_get_read items (length items) i plan refl c.loop-plan-test.true c.plan-item.is in
+    let item : slice_get plans i ≡ Some plan = subst (λ (xs : List Plan). slice_get xs i ≡ Some plan) same found in
+    let made = subst (λ (k : ℕ). TakeTurns (plan_parts k plan) mid new) c.loop-plan.invariant.count c.in_ok-follow_plan.ensures.ok in
+    let turns = TakeTurns-append (written_plans count (take i plans)) (plan_parts count plan) old mid new c.loop-plan.invariant.turns made in record {
+      turns = subst (λ (ps : List ℕ). TakeTurns ps old new) (sym (written_plans-more count plans i plan item)) turns;
+      ready = c.follow_plan.ensures.ready;
+      count = c.follow_plan.ensures.count ∙ c.loop-plan.invariant.count;
     }

@@ -1,5 +1,6 @@
 use Rattle.std.proofs.Common.{ℕ, List, [], refl, subst}
-use Rattle.xp_rules.specs.Scenario.{written_lines, written}
+use Rattle.xp_script.specs.Totals.{plans_of}
+use Rattle.xp_script.specs.Turns.{written_plans, written}
 use Rattle.xp_world.specs.World.{Reaches, TakeTurns, KeepWindows}
 use Rattle.xp_node.specs.Node.{NodeView}
 use Rattle.xp_world.proofs.Worlds.{reaches_turns}
@@ -9,13 +10,13 @@ pub returns-clause-replayed : goal.returns-clause-replayed
 returns-clause-replayed c =
     let s = c.args.scenario.now in
     let old = c.in_ok-world.world in
-    let new = c.follow.new.self in
-    let turns = subst (λ (k : ℕ). TakeTurns (written_lines k s.schedule) old new) c.in_ok-world.ensures.reached.count c.in_ok-follow.ensures.ok in
+    let new = c.follow_written.new.self in
+    let turns = subst (λ (k : ℕ). TakeTurns (written_plans k (plans_of s.schedule)) old new) c.in_ok-world.ensures.reached.count c.in_ok-follow_written.ensures.ok in
     let reaches : Reaches s (written s) new = reaches_turns s [] (written s) old new ([], c.in_ok-world.ensures.reached, refl) turns in
     record {
       history = reaches.0;
       reached = reaches.1;
       scheduled = reaches.2;
-      promises = c.promises_kept.ensures s c.requires reaches.0 new.words reaches.1.words;
+      promises = c.promises_kept.ensures s (record { lawful = c.requires.lawful; built = c.requires.built; calm = c.requires.built.settings.pokes }) reaches.0 new.words reaches.1.words;
       windows = subst (λ (ns : List NodeView). KeepWindows ns) c.deref.ensures.value c.windows_kept.ensures;
     }

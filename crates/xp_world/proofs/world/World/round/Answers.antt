@@ -1,5 +1,5 @@
 use Rattle.std.proofs.Common.{ℕ, List, refl, sym, ◌∙◌, subst}
-use Rattle.xp_rules.specs.Scenario.{one_round}
+use Rattle.xp_script.specs.Turns.{one_round}
 use Rattle.xp_world.specs.World.{WorldTurns, TakeTurns}
 use Rattle.xp_world.proofs.Schedules.{one_round-zero, one_round-more}
 use Rattle.xp_world.proofs.Worlds.{TakeTurns-push}

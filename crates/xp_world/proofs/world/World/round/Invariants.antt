@@ -1,5 +1,5 @@
 use Rattle.std.proofs.Common.{◌≡◌, length}
-use Rattle.xp_rules.specs.Scenario.{one_round}
+use Rattle.xp_script.specs.Turns.{one_round}
 use Rattle.xp_world.specs.World.{IsReady, TakeTurns}
 use Rattle.xp_world.proofs.world.World.round.Given as goal
 

@@ -1,5 +1,5 @@
 use Rattle.std.proofs.Common.{ℕ, List, length, refl, sym, ◌∙◌, subst}
-use Rattle.xp_rules.specs.Scenario.{one_round, some_rounds}
+use Rattle.xp_script.specs.Turns.{one_round, some_rounds}
 use Rattle.xp_world.specs.World.{TakeTurns}
 use Rattle.xp_world.proofs.Schedules.{some_rounds-zero, some_rounds-more}
 use Rattle.xp_world.proofs.Worlds.{TakeTurns-append}

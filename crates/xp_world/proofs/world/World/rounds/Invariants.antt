@@ -1,5 +1,5 @@
 use Rattle.std.proofs.Common.{◌≡◌, length}
-use Rattle.xp_rules.specs.Scenario.{some_rounds}
+use Rattle.xp_script.specs.Turns.{some_rounds}
 use Rattle.xp_world.specs.World.{IsReady, TakeTurns}
 use Rattle.xp_world.proofs.world.World.rounds.Given as goal
 
