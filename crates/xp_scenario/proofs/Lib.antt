@@ -1,6 +1,4 @@
-pub mod Fronts
-pub mod LineLemmas
-pub mod Numbers
-pub mod Rounds
-pub mod Spelled
-pub mod Ordered
+pub mod LineByLine
+pub mod Sound
+pub mod LawfulScenarios
+pub mod Spellings

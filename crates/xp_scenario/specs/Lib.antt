@@ -1,4 +1,9 @@
-pub mod Words
-pub mod Lines
-pub mod Commands
+pub mod Heads
+pub mod Plans
+pub mod Scripts
+pub mod Drafts
+pub mod Faults
+pub mod Limits
 pub mod Text
+pub mod Pokes
+pub mod Spelled

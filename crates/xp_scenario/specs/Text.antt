@@ -1,88 +1,66 @@
--- The texts that spell a scenario of two partitions with one channel that opens connected: three lines that open it, at
--- most one script of each partition, and a schedule, within the limits of commands, releases and rounds.
-use Rattle.std.specs.Prelude.{ℕ, ◌+◌, ◌-◌, ◌<◌, Bool, ◌&&◌, if◌then◌else◌, nat_le, List, [], ◌∷◌, length, slice_index_or, codes, Option, Some, None}
-use Rattle.xp_rules.specs.declared.commands.Command.{Command}
-use Rattle.xp_rules.specs.declared.scenario.Warm.{Warm}
-use Rattle.xp_rules.specs.declared.scenario.Scenario.{Scenario}
-use Rattle.xp_rules.specs.Scenario.{round_count}
-use Rattle.xp_scenario.specs.Words.{◌>>=◌, behind, number_of}
-use Rattle.xp_scenario.specs.Lines.{lines_of, is_ended, behind_line}
-use Rattle.xp_scenario.specs.Commands.{script_in, is_in_order, ReleaseInOrder}
+-- The scenario that a text spells, or its first fault.
+use Rattle.std.specs.Prelude.{◌≡◌, ℕ, ◌+◌, List, [], ◌∷◌, length, Option, Some, None, Result, Ok, Err}
+use Rattle.xp_script.specs.declared.scenario.Scenario.{Scenario}
+use Rattle.xp_text.specs.declared.parts.TheConstants.{LINE_END}
+use Rattle.xp_text.specs.Lines.{parts_of, line_of}
+use Rattle.xp_forms.specs.declared.fault.LineCause.TheVariants as causes
+use Rattle.xp_forms.specs.declared.fault.WordFault.{WordFault}
+use Rattle.xp_forms.specs.declared.fault.LineError.{LineError}
+use Rattle.xp_forms.specs.declared.fault.LineError.TheVariants as errors
+use Rattle.xp_scenario.specs.declared.fault.What.{What}
+use Rattle.xp_scenario.specs.declared.fault.ScenarioFault.{ScenarioFault}
+use Rattle.xp_scenario.specs.declared.fault.ScenarioFault.TheVariants as faults
+use Rattle.xp_scenario.specs.declared.draft.Draft.{Draft}
+use Rattle.xp_scenario.specs.declared.draft.Section.{Section}
+use Rattle.xp_scenario.specs.declared.draft.Section.TheVariants as sections
+use Rattle.xp_scenario.specs.Drafts.{fresh, line_says}
+use Rattle.xp_scenario.specs.Limits.{scenario_of, too_many}
 
--- the channel, with its size
-abbrev pub warm_with : ℕ → ℕ → Warm
-warm_with entries limit = record { first = 0; second = 1; channel = 0; entries = entries; limit = limit }
+-- the fault of a word, in the line of this number
+abbrev pub at_line : {A : Type 0} → ℕ → Result A WordFault → Result A ScenarioFault
+at_line n (Ok x) = Ok x
+at_line n (Err e) = Err (faults.BadLine n e.column e.cause)
 
--- how many entries: 1 to 8
-abbrev pub entries_of : ℕ → Option ℕ
-entries_of digit = if nat_le 49 digit && nat_le digit 56 then Some (digit - 48) else None
+-- a section that is missing at the end of the text
+abbrev pub ended : Section → ℕ → ℕ → Draft → Result Draft ScenarioFault
+ended sections.Opening line column d = Err (faults.BadLine line column causes.Header)
+ended sections.Counting line column d = Err (faults.BadLine line column causes.Order)
+ended _ line column d = Ok d
 
--- how many bytes: at most 112
-abbrev pub limit_of : List ℕ → Option ℕ
-limit_of word = number_of word >>= λ limit. if nat_le limit 112 then Some limit else None
+infixl 10 ◌>>>◌
+abbrev pub ◌>>>◌ : {A B : Type 0}
+    → Result A ScenarioFault → (A → Result B ScenarioFault) → Result B ScenarioFault
+(Ok x) >>> f = f x
+(Err e) >>> f = Err e
 
--- `4 limit 112`, behind `warm 0 1 0 entries `
-unfoldable pub size_of : List ℕ → Option Warm
-size_of [] = None
-size_of (digit ∷ more) = do
-  entries ← entries_of digit
-  word ← behind (codes " limit ") more
-  limit ← limit_of word
-  Some (warm_with entries limit)
+-- what the lines from number n on say, to the end of the text
+abbrev pub lines_say : ℕ → List (List ℕ) → Draft → Result Draft ScenarioFault
+lines_say n [] d = Ok d
+lines_say n (line ∷ []) d =
+    at_line n (line_says d (line_of line)) >>> λ e. ended e.section n (1 + length line) e
+lines_say n (line ∷ next ∷ more) d =
+    at_line n (line_says d (line_of line)) >>> lines_say (n + 1) (next ∷ more)
 
-abbrev pub warm_of : List ℕ → Option Warm
-warm_of line = behind (codes "warm 0 1 0 entries ") line >>= size_of
+-- a scenario, where it is within its limits
+abbrev pub limited : Scenario → Option (What × ℕ) → Result Scenario ScenarioFault
+limited s (Some much) = Err (faults.TooMany much.0 much.1)
+limited s None = Ok s
 
--- the channel of the first line, and the lines behind it
-abbrev pub warm_in : List (List ℕ) → Option (Warm × List (List ℕ))
-warm_in [] = None
-warm_in (line ∷ lines) = warm_of line >>= λ warm. Some (warm, lines)
+-- the scenario that a text spells, or else its first fault
+unfoldable pub scenario_in : List ℕ → Result Scenario ScenarioFault
+scenario_in text =
+    lines_say 1 (parts_of LINE_END text) fresh
+    >>> λ d. limited (scenario_of d) (too_many (scenario_of d))
 
--- the three lines before the scripts
-unfoldable pub opening_in : List (List ℕ) → Option (Warm × List (List ℕ))
-opening_in lines = do
-  count ← behind_line (codes "xpsim 1") lines
-  warm ← behind_line (codes "partitions 2") count
-  warm_in warm
+abbrev pub line_fault : ℕ → LineError → ScenarioFault
+line_fault n errors.Memory = faults.Memory
+line_fault n (errors.Fault f) = faults.BadLine n f.column f.cause
 
--- the number of a line `rounds N`
-abbrev pub rounds_of : List ℕ → Option ℕ
-rounds_of line = behind (codes "rounds ") line >>= number_of
-
--- the numbers of such lines, where there are no others
-abbrev pub rounds_in : List (List ℕ) → Option (List ℕ)
-rounds_in [] = Some []
-rounds_in (line ∷ lines) = do
-  number ← rounds_of line
-  numbers ← rounds_in lines
-  Some (number ∷ numbers)
-
--- the limits: at most 100,000 commands in all, releases in order, at most 8,000,000 rounds in all
-abbrev pub is_within : List Command → List Command → List ℕ → Bool
-is_within first second rounds =
-    nat_le (length first + length second) 100000 && (is_in_order 0 0 first && (is_in_order 0 0 second && nat_le (round_count rounds) 8000000))
-
-abbrev pub scenario_with : Warm → List Command → List Command → List ℕ → Scenario
-scenario_with warm first second rounds = record { count = 2; budget = 1000000; warms = warm ∷ []; faults = []; scripts = first ∷ second ∷ []; schedule = rounds }
-
--- the schedule behind the scripts
-unfoldable pub ending_of : Warm → List Command → List Command → List (List ℕ) → Option Scenario
-ending_of warm first second lines = do
-  schedule ← behind_line (codes "schedule") lines
-  rounds ← rounds_in schedule
-  if is_within first second rounds then Some (scenario_with warm first second rounds) else None
-
--- the two scripts, and the schedule
-unfoldable pub scripts_of : Warm → List (List ℕ) → Option Scenario
-scripts_of warm lines =
-    let first = script_in (codes "script 0") 1 lines in
-    let second = script_in (codes "script 1") 0 first.1 in
-    ending_of warm first.0 second.0 second.1
-
--- the scenario that a text spells
-unfoldable pub scenario_of : List ℕ → Option Scenario
-scenario_of text = if is_ended text then (opening_in (lines_of text) >>= λ opening. scripts_of opening.0 opening.1) else None
-
--- each script of a scenario releases its messages in order
-abbrev pub AreInOrder : Scenario → Type 0
-AreInOrder s = (p : ℕ) → p < s.count → ReleaseInOrder 0 0 (slice_index_or s.scripts p [])
+-- what the program gives; want of memory may stand in place of any answer
+abbrev pub Tells : {X Y : Type 0}
+    → (X → Y) → Result X ScenarioFault → Result Y ScenarioFault → Type 0
+Tells view (Ok x) read = read ≡ Ok (view x)
+Tells view (Err faults.Memory) read = Unit {0}
+Tells view (Err (faults.BadLine line column cause)) read =
+    read ≡ Err (faults.BadLine line column cause)
+Tells view (Err (faults.TooMany what limit)) read = read ≡ Err (faults.TooMany what limit)

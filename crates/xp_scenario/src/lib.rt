@@ -1,10 +1,12 @@
-//! Reading a scenario: two partitions, a channel that opens connected, their scripts and a schedule.
+//! The text of a scenario: the scenario that it spells, or its first fault.
 #![tactic(auto)]
 
-mod commands;
-mod lines;
-mod scripts;
-#[cfg(test)]
-mod tests;
+pub mod draft;
+pub mod fault;
+pub mod head;
+mod limits;
+mod line;
+pub mod plan;
+pub mod poke;
+pub mod scripts;
 pub mod text;
-mod words;

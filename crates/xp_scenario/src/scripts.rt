@@ -1,69 +1,53 @@
-// Scripts.
-ghost use Rattle.std.specs.Prelude.{◌≡◌, IfOk};
-ghost use Rattle.xp_scenario.specs.Lines.{lines_of};
-ghost use Rattle.xp_scenario.specs.Commands.{commands_in, behind_commands, script_in, is_in_order};
+// The scripts that are read so far.
+ghost use Rattle.std.specs.Prelude.{◌≡◌, [], replicate, OnOk, IfOk};
+ghost use Rattle.xp_scenario.specs.Scripts.{script_begun, command_added, in_last};
 
-use crate::commands::command;
-use crate::lines::{after_line, next_line};
 use std::alloc::{AllocError, Global};
 use xp_base::ids::PartId;
-use xp_rules::commands::Command;
+use xp_script::command::Command;
+use xp_script::count::Count;
+use xp_script::script::{Boots, Script, Scripts};
 
-/// The commands under a title, none where it isn't there, and the text behind them.
-#[tactic(auto, unfolding(crate::specs::Commands::script_in))]
-pub fn script<'a>(
-    alloc: Global,
-    title: &[u8],
-    partner: PartId,
-    text: &'a [u8],
-) -> Result<(Vec<Command>, &'a [u8]), AllocError>
-    ensures commands { IfOk result (λ found. found.0.items ≡ (script_in title.now partner (lines_of text.now)).0) }
-    ensures rest { IfOk result (λ found. lines_of found.1.now ≡ (script_in title.now partner (lines_of text.now)).1) }
+/// No script of any of so many partitions.
+pub fn blank_scripts(alloc: Global, count: Count) -> Result<Scripts, AllocError>
+    ensures { IfOk result (λ scripts. scripts ≡ replicate count []) }
 {
-    match after_line(title, text) {
-        Some(body) => commands(alloc, partner, body),
-        None => Ok((Vec::new(alloc), text)),
+    let mut list = Vec::new(alloc);
+    for _ in 0..count.get() {
+        list.push(Boots {
+            list: Vec::new(alloc),
+        })?;
+    }
+    Ok(Scripts { list })
+}
+
+/// Begins a script of the partition.
+pub fn begin_script(alloc: Global, scripts: &mut Scripts, part: PartId) -> Result<(), AllocError>
+    ensures { OnOk result (scripts.new ≡ script_begun part scripts.old) }
+{
+    if let Some(boots) = scripts.list.get_mut(part.get() as usize) {
+        boots.list.push(Script {
+            commands: Vec::new(alloc),
+        })?;
+    }
+    Ok(())
+}
+
+/// Adds a command to the partition's last script.
+pub fn add_command(scripts: &mut Scripts, part: PartId, command: Command) -> Result<(), AllocError>
+    ensures { OnOk result (scripts.new ≡ command_added part command scripts.old) }
+{
+    match scripts.list.get_mut(part.get() as usize) {
+        Some(boots) => add_to_last(boots, command),
+        None => Ok(()),
     }
 }
 
-/// The commands at the front of a text, and the text behind them.
-fn commands(
-    alloc: Global,
-    partner: PartId,
-    text: &[u8],
-) -> Result<(Vec<Command>, &[u8]), AllocError>
-    ensures commands { IfOk result (λ found. found.0.items ≡ commands_in partner (lines_of text.now)) }
-    ensures rest { IfOk result (λ found. lines_of found.1.now ≡ behind_commands partner (lines_of text.now)) }
+fn add_to_last(boots: &mut Boots, command: Command) -> Result<(), AllocError>
+    ensures { OnOk result (boots.new ≡ in_last command boots.old) }
 {
-    let mut commands = Vec::new(alloc);
-    let mut rest = text;
-    while let Some((line, behind)) = next_line(rest) {
-        let Some(command) = command(alloc, partner, line)? else {
-            return Ok((commands, rest));
-        };
-        commands.push(command)?;
-        rest = behind;
+    if let Some(script) = boots.list.last_mut() {
+        script.commands.push(command)?;
     }
-    Ok((commands, rest))
-}
-
-/// Whether the k-th release names k - 1 and stands behind the k-th take.
-pub fn is_in_order(commands: &[Command]) -> bool
-    ensures { result ≡ is_in_order 0 0 commands.now }
-{
-    let mut takes: u64 = 0;
-    let mut releases: u64 = 0;
-    for command in commands {
-        match command {
-            Command::Send { .. } | Command::Drain { .. } => {}
-            Command::Take { .. } => takes += 1,
-            Command::Release { number, .. } => {
-                if *number != releases || releases >= takes {
-                    return false;
-                }
-                releases += 1;
-            }
-        }
-    }
-    true
+    Ok(())
 }

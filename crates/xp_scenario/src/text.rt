@@ -1,189 +1,144 @@
-//! The text of a scenario. Each line ends with LF, the last too; words are separated by one space; numbers have no leading
-//! zeros. The lines, in this order:
-//!
-//! ```text
-//! xpsim 1
-//! partitions 2
-//! warm 0 1 0 entries N limit L    N 1 to 8, L 0 to 112
-//! script 0                        it may be missing, with its commands
-//! send 1 0 PAYLOAD                a command. PAYLOAD is `-`, or two hexadecimal digits a byte, 1 to 4,096 bytes
-//! take 1 0                        a command
-//! release 1 0 K                   a command: the k-th release names k - 1, and stands behind the k-th take
-//! script 1                        likewise, with partner 0
-//! schedule
-//! rounds N                        any number of such lines, whose N sum to at most 8,000,000
-//! ```
-//!
-//! The scripts have at most 100,000 commands together. Each send and take waits, and no send asks for a notice.
+// The text of a scenario.
+ghost use Rattle.std.specs.Prelude.{◌≡◌, ◌+◌, ℕ, Ok, Err, IfOk};
+ghost use Rattle.xp_script.specs.Lawful.{IsLawful};
+ghost use Rattle.xp_text.specs.Lines.{parts_of};
+ghost use Rattle.xp_script.specs.declared.scenario.Scenario as scenarios;
+ghost use Rattle.xp_forms.specs.declared.fault.LineCause.{LineCause};
+ghost use Rattle.xp_scenario.specs.declared.fault.What.{What};
+ghost use Rattle.xp_scenario.specs.declared.fault.ScenarioFault.TheVariants as faults;
+ghost use Rattle.xp_scenario.specs.Drafts.{fresh};
+ghost use Rattle.xp_scenario.specs.Spelled.{Spells, IsBadLine, Passes};
+ghost use Rattle.xp_scenario.specs.Limits.{scenario_of, too_many};
+ghost use Rattle.xp_scenario.specs.Text.{Tells, lines_say, limited, line_fault, ended, scenario_in};
 
-ghost use Rattle.std.specs.Prelude.{◌≡◌, nat_le, IfOk, IfSome};
-ghost use Rattle.xp_rules.specs.Scenario.{IsLawful, round_count};
-ghost use Rattle.xp_scenario.specs.Words.{Gives};
-ghost use Rattle.xp_scenario.specs.Lines.{lines_of};
-ghost use Rattle.xp_scenario.specs.Text.{size_of, warm_of, warm_in, opening_in, rounds_of, rounds_in, is_within, scenario_with, ending_of, scripts_of, scenario_of, AreInOrder};
+use crate::draft::{Draft, Section};
+use crate::fault::ScenarioFault;
+use crate::limits::too_many;
+use crate::line::read_line;
+use std::alloc::Global;
+use xp_forms::fault::{LineCause, LineError};
+use xp_script::limits::default_budget;
+use xp_script::scenario::Scenario;
+use xp_text::parts::{LINE_END, first_part};
 
-use crate::lines::{after_line, next_line};
-use crate::scripts::{is_in_order, script};
-use crate::words::{after, number};
-use std::alloc::{AllocError, Global};
-use xp_base::ids::{Channel, PartId};
-use xp_rules::commands::{Command, Script};
-use xp_rules::scenario::{Faults, Scenario, Schedule, Scripts, Warm, Warms};
-use xp_script::lawful::are_few_rounds;
+/// The scenario that a text spells, or its first fault. Past 16,777,216 bytes of payloads and past
+/// 100,000 commands only their numbers are kept.
+pub fn parse(alloc: Global, text: &[u8]) -> Result<Scenario, ScenarioFault>
+    ensures scenario { Tells (λ s. s) result (scenario_in text.now) }
+    ensures lawful { IfOk result IsLawful }
 
-/// How many turns a partition may take where nothing schedules it.
-const BUDGET: u64 = 1_000_000;
+    // A scenario is what the text spells, and what it spells is found, unless memory runs out.
+    ensures found { IfOk result (λ s. Spells text.now s) }
+    ensures each_found { (s : scenarios.Scenario) → Spells text.now s
+        → Tells (λ s. s) result (Ok s) }
 
-/// The longest payload that a channel may allow, in bytes.
-const LONGEST_PAYLOAD: u64 = 112;
+    // A bad line is the first one, and a text that has one is refused with it.
+    ensures bad { (line column : ℕ) (cause : LineCause)
+        → result ≡ Err (faults.BadLine line column cause) → IsBadLine text.now line column cause }
+    ensures each_bad { (line column : ℕ) (cause : LineCause) → IsBadLine text.now line column cause
+        → Tells (λ s. s) result (Err (faults.BadLine line column cause)) }
 
-/// How many commands the scripts may have together.
-const COMMAND_LIMIT: usize = 100_000;
-
-/// How many rounds a schedule may have.
-const ROUND_LIMIT: u64 = 8_000_000;
-
-/// The scenario that a text spells, or none where it spells none.
-#[tactic(auto, unfolding(crate::specs::Text::scenario_of))]
-pub fn parse(alloc: Global, text: &[u8]) -> Result<Option<Scenario>, AllocError>
-    // A scenario comes exactly where the text spells it.
-    ensures value { IfOk result (λ scenario. scenario ≡ scenario_of text.now) }
-    ensures lawful { IfOk result (λ scenario. IfSome scenario IsLawful) }
-    ensures ordered { IfOk result (λ scenario. IfSome scenario AreInOrder) }
+    // There is too much exactly where every line is right.
+    ensures much { (what : What) (limit : ℕ)
+        → result ≡ Err (faults.TooMany what limit) → Passes text.now what limit }
+    ensures each_much { (what : What) (limit : ℕ) → Passes text.now what limit
+        → Tells (λ s. s) result (Err (faults.TooMany what limit)) }
 {
-    if !text.ends_with(b"\n") {
-        return Ok(None);
+    read(alloc, text)
+}
+
+#[tactic(auto, unfolding(crate::specs::Text::scenario_in))]
+fn read(alloc: Global, text: &[u8]) -> Result<Scenario, ScenarioFault>
+    ensures { Tells (λ s. s) result (scenario_in text.now) }
+{
+    let draft = draft_of(alloc, text)?;
+    within_limits(scenario(draft))
+}
+
+/// The scenario, where it is within its limits.
+fn within_limits(scenario: Scenario) -> Result<Scenario, ScenarioFault>
+    ensures { Tells (λ s. s) result (limited scenario (too_many scenario)) }
+{
+    match too_many(&scenario) {
+        None => Ok(scenario),
+        Some((what, limit)) => Err(ScenarioFault::TooMany { what, limit }),
     }
-    match opening(text) {
-        Some((warm, rest)) => body(alloc, warm, rest),
-        None => Ok(None),
-    }
 }
 
-/// The channel of the three lines before the scripts, and the text behind them.
-#[tactic(auto, unfolding(crate::specs::Text::opening_in))]
-fn opening(text: &[u8]) -> Option<(Warm, &[u8])>
-    ensures { Gives (λ found. (found.0, lines_of found.1.now)) result (opening_in (lines_of text.now)) }
+/// The scenario that a draft means.
+fn scenario(draft: Draft) -> Scenario
+    ensures { result ≡ scenario_of draft }
 {
-    let rest = after_line(b"xpsim 1", text)?;
-    let rest = after_line(b"partitions 2", rest)?;
-    let (line, rest) = next_line(rest)?;
-    Some((warm(line)?, rest))
-}
-
-fn warm(line: &[u8]) -> Option<Warm>
-    ensures { result ≡ warm_of line.now }
-{
-    size(after(b"warm 0 1 0 entries ", line)?)
-}
-
-#[tactic(auto, unfolding(crate::specs::Text::size_of))]
-fn size(words: &[u8]) -> Option<Warm>
-    ensures { result ≡ size_of words.now }
-{
-    let [digit @ b'1'..=b'8', more @ ..] = words else {
-        return None;
-    };
-    let limit = number(after(b" limit ", more)?)?;
-    if limit > LONGEST_PAYLOAD {
-        return None;
-    }
-    Some(Warm {
-        first: PartId::known(0),
-        second: PartId::known(1),
-        channel: Channel::known(0),
-        entries: *digit - b'0',
-        limit: limit as u16,
-    })
-}
-
-/// The scenario of what stands behind the first three lines.
-#[tactic(auto, unfolding(crate::specs::Text::scripts_of))]
-fn body(alloc: Global, warm: Warm, text: &[u8]) -> Result<Option<Scenario>, AllocError>
-    ensures { IfOk result (λ scenario. scenario ≡ scripts_of warm (lines_of text.now)) }
-{
-    let (first, rest) = script(alloc, b"script 0", PartId::known(1), text)?;
-    let (second, rest) = script(alloc, b"script 1", PartId::known(0), rest)?;
-    ending(alloc, warm, first, second, rest)
-}
-
-#[tactic(auto, unfolding(crate::specs::Text::ending_of))]
-fn ending(
-    alloc: Global,
-    warm: Warm,
-    first: Vec<Command>,
-    second: Vec<Command>,
-    text: &[u8],
-) -> Result<Option<Scenario>, AllocError>
-    ensures { IfOk result (λ scenario. scenario ≡ ending_of warm first.items second.items (lines_of text.now)) }
-{
-    let Some(rest) = after_line(b"schedule", text) else {
-        return Ok(None);
-    };
-    let Some(rounds) = schedule(alloc, rest)? else {
-        return Ok(None);
-    };
-    if !is_within(&first, &second, &rounds) {
-        return Ok(None);
-    }
-    Ok(Some(scenario(alloc, warm, first, second, rounds)?))
-}
-
-/// The numbers of a text of lines `rounds N` alone.
-fn schedule(alloc: Global, text: &[u8]) -> Result<Option<Vec<u64>>, AllocError>
-    ensures { IfOk result (λ rounds. Gives (λ numbers. numbers.items) rounds (rounds_in (lines_of text.now))) }
-{
-    let mut rounds = Vec::new(alloc);
-    let mut rest = text;
-    while let Some((line, behind)) = next_line(rest) {
-        let Some(number) = rounds_line(line) else {
-            return Ok(None);
-        };
-        rounds.push(number)?;
-        rest = behind;
-    }
-    Ok(Some(rounds))
-}
-
-fn rounds_line(line: &[u8]) -> Option<u64>
-    ensures { result ≡ rounds_of line.now }
-{
-    number(after(b"rounds ", line)?)
-}
-
-/// Whether scripts and schedule keep their limits.
-fn is_within(first: &[Command], second: &[Command], rounds: &[u64]) -> bool
-    ensures { result ≡ is_within first.now second.now rounds.now }
-{
-    first.len() <= COMMAND_LIMIT
-        && second.len() <= COMMAND_LIMIT - first.len()
-        && is_in_order(first)
-        && is_in_order(second)
-        && are_few_rounds(rounds, ROUND_LIMIT)
-}
-
-fn scenario(
-    alloc: Global,
-    warm: Warm,
-    first: Vec<Command>,
-    second: Vec<Command>,
-    rounds: Vec<u64>,
-) -> Result<Scenario, AllocError>
-    ensures { IfOk result (λ scenario. scenario ≡ scenario_with warm first.items second.items rounds.items) }
-{
-    let mut warms = Vec::new(alloc);
-    warms.push(warm)?;
-    let mut scripts = Vec::new(alloc);
-    scripts.push(Script::new(first))?;
-    scripts.push(Script::new(second))?;
-    Ok(Scenario {
-        count: 2,
-        budget: BUDGET,
-        warms: Warms { list: warms },
-        faults: Faults {
-            list: Vec::new(alloc),
+    Scenario {
+        count: draft.count,
+        budget: draft
+            .settings
+            .budget
+            .unwrap_or(default_budget(draft.count.get())),
+        check: draft.settings.check.unwrap_or(0),
+        minors: draft.settings.minors,
+        warms: draft.settings.warms,
+        faults: draft.settings.faults,
+        stops: draft.settings.stops,
+        restarts: draft.settings.restarts,
+        pokes: draft.settings.pokes,
+        scripts: draft.scripts,
+        schedule: match draft.section {
+            Section::Schedule => Some(draft.plans),
+            _ => None,
         },
-        scripts: Scripts { list: scripts },
-        schedule: Schedule { rounds },
+    }
+}
+
+/// What all lines say.
+fn draft_of(alloc: Global, text: &[u8]) -> Result<Draft, ScenarioFault>
+    ensures { Tells (λ d. d) result (lines_say 1 (parts_of LINE_END text.now) fresh) }
+{
+    let mut draft = Draft::new(alloc);
+    let mut rest = text;
+    let mut number: u64 = 1;
+    loop {
+        let (bytes, behind) = first_part(LINE_END, rest);
+        match read_line(alloc, &mut draft, bytes) {
+            Ok(()) => {}
+            Err(error) => return Err(at_line(number, error)),
+        }
+        match behind {
+            Some(more) => {
+                rest = more;
+                number += 1;
+            }
+            None => return at_end(draft, number, 1 + bytes.len() as u64),
+        }
+    }
+}
+
+/// The fault of a line of this number.
+fn at_line(line: u64, error: LineError) -> ScenarioFault
+    ensures { result ≡ line_fault line error }
+{
+    match error {
+        LineError::Memory => ScenarioFault::Memory,
+        LineError::Fault(fault) => ScenarioFault::BadLine {
+            line,
+            column: fault.column,
+            cause: fault.cause,
+        },
+    }
+}
+
+/// The draft, where no section is missing at the end of the text.
+fn at_end(draft: Draft, line: u64, column: u64) -> Result<Draft, ScenarioFault>
+    ensures { Tells (λ d. d) result (ended draft.section line column draft) }
+{
+    let cause = match draft.section {
+        Section::Opening => LineCause::Header,
+        Section::Counting => LineCause::Order,
+        Section::Settings | Section::Scripts | Section::Schedule => return Ok(draft),
+    };
+    Err(ScenarioFault::BadLine {
+        line,
+        column,
+        cause,
     })
 }

@@ -1,0 +1,4 @@
+pub mod Words
+pub mod Tests
+pub mod Settings
+pub mod Lawful

@@ -1,0 +1,5 @@
+pub mod LineLemmas
+pub mod WordLemmas
+pub mod PayloadLemmas
+pub mod DigitLemmas
+pub mod ByteLemmas
