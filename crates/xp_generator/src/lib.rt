@@ -1,0 +1,4 @@
+//! Scenarios that are made by a number.
+#![tactic(auto)]
+
+pub mod generator;
