@@ -1,5 +1,6 @@
 // The line of a partition.
-ghost use Rattle.std.specs.Prelude.{◌≡◌, ◌++◌, OnOk, string_bytes};
+ghost use Rattle.std.specs.Prelude.{◌≡◌};
+ghost use Rattle.xp_report.specs.Lines.{Appends};
 ghost use Rattle.xp_report.specs.Report.{state_text, head_text};
 
 use std::alloc::AllocError;
@@ -25,7 +26,7 @@ pub fn write_head(
     ended: Option<Ended>,
     boots: u8,
 ) -> Result<(), AllocError>
-    ensures { OnOk result (string_bytes out.new ≡ string_bytes out.old ++ head_text part ended boots) }
+    ensures { Appends result out.old out.new (head_text part ended boots) }
 {
     let state = state_name(ended);
     writeln!(out, "partition {part} {state} boots {boots}")

@@ -1,62 +1,76 @@
 // The lines of the connections.
-ghost use Rattle.std.specs.Prelude.{◌≡◌, ◌++◌, OnOk, map, string_bytes};
-ghost use Rattle.xp_report.specs.Report.{connection_text, counts_text, link_text, over_text, connected_text, ended_text, record_text, records_text};
+ghost use Rattle.std.specs.Prelude.{map, Some};
+ghost use Rattle.xp_report.specs.Lines.{Appends};
+ghost use Rattle.xp_report.specs.Links.{connection_text, counts_text, link_text, over_text, connected_text, ended_text, record_text, records_text};
 ghost use Rattle.xp_rules.specs.Records.{seen};
 
 use std::alloc::AllocError;
+use std::fmt;
 use xp_base::reason::Reason;
 use xp_rules::records::Record;
 
-#[tactic(auto, unfolding(crate::specs::Report::connection_text))]
-fn write_connection(out: &mut String, connection: &Record) -> Result<(), AllocError>
-    ensures { OnOk result (string_bytes out.new ≡ string_bytes out.old ++ connection_text (seen connection.now)) }
-{
-    let partner = connection.partner.get();
-    let channel = connection.channel.get();
-    write!(
-        out,
-        "{partner} {channel} epoch {} own {}.{} partner {}.{}",
-        connection.epoch,
-        connection.own.stamp,
-        connection.own.count,
-        connection.theirs.stamp,
-        connection.theirs.count
-    )
+// Which connection a line is of.
+#[derive(Drop)]
+struct Name<'a>(&'a Record);
+
+impl fmt::Display for Name<'_> {
+    ghost output = { λ name. Some (connection_text (seen name.0.now)) };
+
+    #[tactic(auto, unfolding(crate::specs::Links::connection_text))]
+    fn fmt<W: fmt::Write>(&self, f: &mut fmt::Formatter<W>) -> fmt::Result {
+        let of = self.0;
+        write!(
+            f,
+            "{} {} epoch {} own {}.{} partner {}.{}",
+            of.partner.get(),
+            of.channel.get(),
+            of.epoch,
+            of.own.stamp,
+            of.own.count,
+            of.theirs.stamp,
+            of.theirs.count
+        )
+    }
 }
 
-#[tactic(auto, unfolding(crate::specs::Report::counts_text))]
-fn write_counts(out: &mut String, connection: &Record) -> Result<(), AllocError>
-    ensures { OnOk result (string_bytes out.new ≡ string_bytes out.old ++ counts_text (seen connection.now)) }
-{
-    let accepted = connection.accepted.len();
-    let taken = connection.taken.len();
-    let acked = connection.acked;
-    let delivered = connection.delivered.len();
-    let ended = connection.ended.len();
-    writeln!(
-        out,
-        " accepted {accepted} taken {taken} acked {acked} delivered {delivered} ended {ended}"
-    )
+// What came of a connection, in numbers.
+#[derive(Drop)]
+struct Counts<'a>(&'a Record);
+
+impl fmt::Display for Counts<'_> {
+    ghost output = { λ counts. Some (counts_text (seen counts.0.now)) };
+
+    #[tactic(auto, unfolding(crate::specs::Links::counts_text))]
+    fn fmt<W: fmt::Write>(&self, f: &mut fmt::Formatter<W>) -> fmt::Result {
+        let of = self.0;
+        write!(
+            f,
+            "accepted {} taken {} acked {} delivered {} ended {}",
+            of.accepted.len(),
+            of.taken.len(),
+            of.acked,
+            of.delivered.len(),
+            of.ended.len()
+        )
+    }
 }
 
+#[tactic(auto, unfolding(crate::specs::Links::link_text))]
 fn write_link(out: &mut String, connection: &Record) -> Result<(), AllocError>
-    ensures { OnOk result (string_bytes out.new ≡ string_bytes out.old ++ link_text (seen connection.now)) }
+    ensures { Appends result out.old out.new (link_text (seen connection.now)) }
 {
-    out.push_str("  link ")?;
-    write_connection(out, connection)?;
-    write_counts(out, connection)
+    writeln!(out, "  link {} {}", Name(connection), Counts(connection))
 }
 
+#[tactic(auto, unfolding(crate::specs::Links::over_text))]
 fn write_over(out: &mut String, connection: &Record, reason: Reason) -> Result<(), AllocError>
-    ensures { OnOk result (string_bytes out.new ≡ string_bytes out.old ++ over_text (seen connection.now) reason) }
+    ensures { Appends result out.old out.new (over_text (seen connection.now) reason) }
 {
-    out.push_str("  over ")?;
-    write_connection(out, connection)?;
-    writeln!(out, " {reason}")
+    writeln!(out, "  over {} {reason}", Name(connection))
 }
 
 fn write_connected(out: &mut String, connection: &Record) -> Result<(), AllocError>
-    ensures { OnOk result (string_bytes out.new ≡ string_bytes out.old ++ connected_text (seen connection.now) connection.now.connected) }
+    ensures { Appends result out.old out.new (connected_text (seen connection.now)) }
 {
     if connection.connected {
         write_link(out, connection)
@@ -66,7 +80,7 @@ fn write_connected(out: &mut String, connection: &Record) -> Result<(), AllocErr
 }
 
 fn write_ended(out: &mut String, connection: &Record) -> Result<(), AllocError>
-    ensures { OnOk result (string_bytes out.new ≡ string_bytes out.old ++ ended_text (seen connection.now) connection.now.over) }
+    ensures { Appends result out.old out.new (ended_text (seen connection.now)) }
 {
     match connection.over {
         Some(reason) => write_over(out, connection, reason),
@@ -76,7 +90,7 @@ fn write_ended(out: &mut String, connection: &Record) -> Result<(), AllocError>
 
 /// Writes what came of a connection, and why it ended.
 pub fn write_record(out: &mut String, connection: &Record) -> Result<(), AllocError>
-    ensures { OnOk result (string_bytes out.new ≡ string_bytes out.old ++ record_text (seen connection.now)) }
+    ensures { Appends result out.old out.new (record_text (seen connection.now)) }
 {
     write_connected(out, connection)?;
     write_ended(out, connection)
@@ -84,7 +98,7 @@ pub fn write_record(out: &mut String, connection: &Record) -> Result<(), AllocEr
 
 /// Writes what came of some connections, in their order.
 pub fn write_records(out: &mut String, records: &[Record]) -> Result<(), AllocError>
-    ensures { OnOk result (string_bytes out.new ≡ string_bytes out.old ++ records_text (map seen records.now)) }
+    ensures { Appends result out.old out.new (records_text (map seen records.now)) }
 {
     for connection in records {
         write_record(out, connection)?;

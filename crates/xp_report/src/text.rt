@@ -1,5 +1,6 @@
 // The whole report.
-ghost use Rattle.std.specs.Prelude.{◌≡◌, ◌++◌, IfOk, None, OnOk, string_bytes};
+ghost use Rattle.std.specs.Prelude.{◌≡◌, IfOk, None};
+ghost use Rattle.xp_report.specs.Lines.{Appends};
 ghost use Rattle.xp_report.specs.Report.{AreIdle, node_text, report_of};
 
 use crate::head::write_head;
@@ -8,10 +9,11 @@ use crate::log::write_entries;
 use std::alloc::{AllocError, Global};
 use xp_node::node::Node;
 
-/// Writes the lines of a node: how it stands, its commands, and its connections in the order of their records.
+// Writes the lines of a node: how it stands, its commands, and its connections in the order of
+// their records.
 fn write_node(out: &mut String, node: &Node) -> Result<(), AllocError>
     requires { node.now.waiting ≡ None }
-    ensures { OnOk result (string_bytes out.new ≡ string_bytes out.old ++ node_text node.now) }
+    ensures { Appends result out.old out.new (node_text node.now) }
 {
     write_head(out, node.part(), node.ended(), node.boots())?;
     write_entries(out, node.log())?;

@@ -1,6 +1,6 @@
 use Rattle.std.proofs.Common.{◌≡◌, ◌++◌, drop, map, string_bytes}
 use Rattle.xp_rules.specs.Records.{seen}
-use Rattle.xp_report.specs.Report.{records_text}
+use Rattle.xp_report.specs.Links.{records_text}
 use Rattle.xp_report.proofs.links.write_records.Given as goal
 
 abbrev pub invariant-loop-connection : goal.invariant-loop-connection

@@ -1,5 +1,5 @@
 use Rattle.std.proofs.Common.{◌≡◌, ◌++◌, drop, string_bytes}
-use Rattle.xp_report.specs.Report.{entries_text}
+use Rattle.xp_report.specs.Log.{entries_text}
 use Rattle.xp_report.proofs.log.write_entries.Given as goal
 
 abbrev pub invariant-loop-entry : goal.invariant-loop-entry

@@ -1,6 +1,8 @@
 use Rattle.std.proofs.Common.{refl, map, string_bytes}
 use Rattle.xp_rules.specs.Records.{seen}
-use Rattle.xp_report.specs.Report.{head_text, entries_text, records_text, node_text}
+use Rattle.xp_report.specs.Log.{entries_text}
+use Rattle.xp_report.specs.Links.{records_text}
+use Rattle.xp_report.specs.Report.{head_text, node_text}
 use Rattle.xp_report.proofs.Texts.{joined3}
 use Rattle.xp_report.proofs.text.write_node.Goals as goal
 

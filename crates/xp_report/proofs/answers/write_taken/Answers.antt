@@ -1,9 +1,9 @@
 use Rattle.std.proofs.Common.{refl, string_bytes, codes}
 use Rattle.std.specs.Fmt.{decimal}
 use Rattle.xp_base.specs.Show.{◌⧺◌, payload_text}
-use Rattle.xp_report.specs.Report.{taken_text}
+use Rattle.xp_report.specs.Answers.{taken_text}
 use Rattle.xp_report.proofs.Texts.{joined}
-use Rattle.xp_report.proofs.log.write_taken.Goals as goal
+use Rattle.xp_report.proofs.answers.write_taken.Goals as goal
 
 pub returns : goal.returns
 unfolding taken_text
