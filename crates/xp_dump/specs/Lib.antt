@@ -1,0 +1,6 @@
+pub mod Grammar
+pub mod Parts
+pub mod Progress
+pub mod Stages
+pub mod Standing
+pub mod Tapes
