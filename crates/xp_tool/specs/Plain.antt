@@ -1,95 +1,105 @@
--- What the top call promises: which words are a command, what a command does with its input, and when each status comes.
-use Rattle.std.specs.Prelude.{◌≡◌, ℕ, ◌<◌, ◌≤◌, ◌⊎◌, ◌==◌, if◌then◌else◌, List, [], ◌∷◌, length, take, codes, Option, Some, None, IsSome, IfSome, string_bytes}
+-- What the top call promises of any command: what it reads, when each status comes, and what is
+-- written.
+use Rattle.std.specs.Prelude.{◌≡◌, ℕ, ◌+◌, ◌<◌, ◌≤◌, if◌then◌else◌, List, [], length, take, Option, Some, None, IsSomeAnd}
 use Rattle.std.specs.Io.KnownBytes.{Appends, Consumes, IsAtEnd}
-use Rattle.std.specs.Cmp.Lexicographic.{pointwise}
 use Rattle.std.specs.declared.string.String.{String}
 use Rattle.std.specs.declared.alloc.Global.{Global}
-use Rattle.xp_outside.specs.Causes.{Rose}
-use Rattle.xp_rules.specs.declared.scenario.Scenario.{Scenario}
-use Rattle.xp_report.specs.Report.{report_of}
-use Rattle.xp_scenario.specs.Text.{scenario_of}
 use Rattle.xp_world.specs.declared.world.World.{World}
-use Rattle.xp_world.specs.World.{Replayed}
-use Rattle.xp_tool.specs.declared.plain.ToolCommand.{ToolCommand}
-use Rattle.xp_tool.specs.declared.plain.ToolCommand.TheVariants.{Replay}
-use Rattle.xp_tool.specs.declared.status.Status.{Status}
-use Rattle.xp_tool.specs.declared.status.Status.TheVariants.{Ok, Usage, ReadFault, WriteFault, BadInput, NoMemory}
+use Rattle.xp_tool.specs.declared.command.ToolCommand.{ToolCommand}
+use Rattle.xp_tool.specs.declared.product.Product.{Product}
+use Rattle.xp_tool.specs.declared.status.InputFault.{InputFault}
+use Rattle.xp_tool.specs.Words.{command_of}
+use Rattle.xp_tool.specs.Command.{is_plain, limit_of, IsRefused, Does, text_of, end_of}
 
--- how many bytes of a scenario are read at most
-abbrev pub input_limit : ℕ
-input_limit = 1048576
+-- the command, where it needs no threads
+abbrev pub only_plain : Option ToolCommand → Option ToolCommand
+only_plain None = None
+only_plain (Some command) = if is_plain command then Some command else None
 
--- the command that some words are: the one word replay
-abbrev pub command_of : List (String Global) → Option ToolCommand
-command_of [] = None
-command_of (word ∷ []) = if pointwise ◌==◌ (string_bytes word) (codes "replay") then Some Replay else None
-command_of (word ∷ other ∷ more) = None
+-- the command without threads that some words are
+abbrev pub plain_command_of : List (String Global) → Option ToolCommand
+plain_command_of words = only_plain (command_of words)
 
--- the input spells a scenario, and the world is what its replay leaves
-pub record Replays (input : List ℕ) (world : World) : Type 0 where
-  pub scenario : Scenario
-  pub spelled : scenario_of input ≡ Some scenario
-  pub replayed : Replayed scenario world
+-- within its limit a command reads all bytes to their end; without one it reads nothing
+abbrev pub ReadsWithin : Option ℕ → Option (List ℕ) → Option (List ℕ) → List ℕ → Type 0
+ReadsWithin (Some limit) left left' input =
+    Consumes left left' input × IsAtEnd left' × (length input ≤ limit)
+ReadsWithin None left left' input = (input ≡ []) × (left' ≡ left)
 
--- what a command makes of its input, and the text that it writes of it
-abbrev pub Does : ToolCommand → List ℕ → World → Type 0
-Does Replay input world = Replays input world
+-- the command read this input
+abbrev pub Reads : ToolCommand → Option (List ℕ) → Option (List ℕ) → List ℕ → Type 0
+Reads command left left' input = ReadsWithin (limit_of command) left left' input
 
-abbrev pub text_of : ToolCommand → World → List ℕ
-text_of Replay world = report_of world.nodes.items
-
--- the input isn't in the command's grammar
-abbrev pub IsRefused : ToolCommand → List ℕ → Type 0
-IsRefused Replay input = scenario_of input ≡ None
-
--- all bytes were read, they are no more than the limit, and `end` is what the command made of them
-pub record Ran (command : ToolCommand) (left left' : Option (List ℕ)) (end : Option World) : Type 0 where
+-- the command read its input and made this of it
+pub record Ran (command : ToolCommand) (left left' : Option (List ℕ)) (made : Product)
+    : Type 0 where
   pub input : List ℕ
-  pub read : Consumes left left' input
-  pub whole : IsAtEnd left'
-  pub within : length input ≤ input_limit
-  pub world : World
-  pub is : end ≡ Some world
-  pub done : Does command input world
+  pub read : Reads command left left' input
+  pub done : Does command input made
 
--- it was done, and its text was written
-pub record Headline (command : ToolCommand) (left left' held held' : Option (List ℕ)) (end : Option World) : Type 0 where
-  pub ran : Ran command left left' end
-  pub written : Appends held held' (text_of command ran.world)
+-- it was done, all of its text was written, and `end` is the world that is left
+pub record Headline (command : ToolCommand) (left left' held held' : Option (List ℕ))
+    (end : Option World) : Type 0 where
+  pub made : Product
+  pub ran : Ran command left left' made
+  pub written : Appends held held' (text_of command made)
+  pub is : end ≡ end_of made
+
+-- it was done, a front of its text was written, and `end` is the world that is left
+pub record Cut (command : ToolCommand) (left left' held held' : Option (List ℕ))
+    (end : Option World) : Type 0 where
+  pub made : Product
+  pub ran : Ran command left left' made
+  pub count : ℕ
+  pub written : Appends held held' (take count (text_of command made))
+  pub is : end ≡ end_of made
 
 -- it was done, and a front of its text was written
-pub record Cut (command : ToolCommand) (left left' held held' : Option (List ℕ)) (end : Option World) : Type 0 where
-  pub ran : Ran command left left' end
-  pub count : ℕ
-  pub written : Appends held held' (take count (text_of command ran.world))
+abbrev pub WritesFront : ToolCommand → Option (List ℕ) → Option (List ℕ) → Option (List ℕ)
+    → Option (List ℕ) → Type 0
+WritesFront command left left' held held' =
+    (end : Option World) × Cut command left left' held held' end
 
--- more bytes than the limit were read, or all were read and they aren't in the grammar
-pub record IsBad (command : ToolCommand) (left left' : Option (List ℕ)) : Type 0 where
+-- the command read its input, which has this fault
+pub record IsBad (command : ToolCommand) (left left' : Option (List ℕ)) (fault : InputFault)
+    : Type 0 where
   pub input : List ℕ
-  pub read : Consumes left left' input
-  pub bad : (input_limit < length input) ⊎ (IsAtEnd left' × IsRefused command input)
+  pub read : Reads command left left' input
+  pub refused : IsRefused command input fault
 
--- nothing was written, or a front of the text was
-abbrev pub WritesSome : ToolCommand → Option (List ℕ) → Option (List ℕ) → Option (List ℕ) → Option (List ℕ) → Type 0
-WritesSome command left left' held held' = (held' ≡ held) ⊎ ((world : World) × Cut command left left' held held' (Some world))
+-- the command has this limit, and one byte more than it was read
+pub record IsTooLong (command : ToolCommand) (left left' : Option (List ℕ)) (limit : ℕ)
+    : Type 0 where
+  pub is : limit_of command ≡ Some limit
+  pub bytes : List ℕ
+  pub read : Consumes left left' bytes
+  pub long : length bytes ≡ limit + 1
 
--- when a status comes, and what it says of the bytes read and written and of the end; the last four numbers count the faults of the source and of the sink
-abbrev pub Outcome : Status → Option ToolCommand → Option (List ℕ) → Option (List ℕ) → Option (List ℕ) → Option (List ℕ) → ℕ → ℕ → ℕ → ℕ → Option World → Type 0
-Outcome Ok command left left' held held' rf rf' wf wf' end = IfSome command (λ c. Headline c left left' held held' end) × IsSome command
-Outcome Usage command left left' held held' rf rf' wf wf' end = (command ≡ None) × (held' ≡ held) × (end ≡ None)
-Outcome ReadFault command left left' held held' rf rf' wf wf' end = IsSome command × Rose rf rf' × (held' ≡ held) × (end ≡ None)
-Outcome WriteFault command left left' held held' rf rf' wf wf' end = IsSome command × Rose wf wf' × IfSome command (λ c. Cut c left left' held held' end)
-Outcome (BadInput fault) command left left' held held' rf rf' wf wf' end = IsSome command × IfSome command (λ c. IsBad c left left') × (held' ≡ held) × (end ≡ None)
-Outcome NoMemory command left left' held held' rf rf' wf wf' end = IsSome command × (end ≡ None) × IfSome command (λ c. WritesSome c left left' held held')
+-- what a source that has these bytes left tells of the input
+abbrev pub told_within : Option ℕ → Option (List ℕ) → Option (List ℕ)
+told_within (Some limit) left = left
+told_within None left = Some []
 
--- some words are a command, and the input is told, not too long and in the command's grammar
-abbrev pub IsGood : Option ToolCommand → Option (List ℕ) → Type 0
-IsGood (Some command) (Some input) = (length input ≤ input_limit) × (IsRefused command input → ⊥)
-IsGood (Some command) None = ⊥
-IsGood None left = ⊥
+abbrev pub IsWithin : Option ℕ → List ℕ → Type 0
+IsWithin (Some limit) input = length input ≤ limit
+IsWithin None input = Unit {0}
 
--- some words are a command, and the input is told and too long, or not in the command's grammar
-abbrev pub IsWrong : Option ToolCommand → Option (List ℕ) → Type 0
-IsWrong (Some command) (Some input) = (input_limit < length input) ⊎ IsRefused command input
-IsWrong (Some command) None = ⊥
-IsWrong None left = ⊥
+-- the input is told and within the limit, and this holds of it
+abbrev pub IsToldAnd : ToolCommand → Option (List ℕ) → (List ℕ → Type 0) → Type 0
+IsToldAnd command left P = IsSomeAnd (told_within (limit_of command) left)
+    (λ input. IsWithin (limit_of command) input × P input)
+
+-- the input is in the command's grammar, and in its limit
+abbrev pub IsGood : ToolCommand → Option (List ℕ) → Type 0
+IsGood command left = IsToldAnd command left
+    (λ input. (fault : InputFault) → IsRefused command input fault → ⊥)
+
+-- the input isn't in the command's grammar, and is in its limit
+abbrev pub IsWrong : ToolCommand → Option (List ℕ) → Type 0
+IsWrong command left = IsToldAnd command left
+    (λ input. (fault : InputFault) × IsRefused command input fault)
+
+-- more bytes than the command's limit are left
+abbrev pub IsPastLimit : ToolCommand → Option (List ℕ) → Type 0
+IsPastLimit command left = IsSomeAnd (limit_of command)
+    (λ limit. IsSomeAnd left (λ input. limit < length input))

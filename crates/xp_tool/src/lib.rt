@@ -1,18 +1,11 @@
 //! The program: words and bytes in, bytes out.
 #![tactic(auto)]
 
-#[cfg(test)]
-mod drains;
+pub mod command;
 pub mod plain;
-#[cfg(test)]
-mod replays;
-#[cfg(test)]
-mod rows;
+mod product;
 pub mod status;
-#[cfg(test)]
-mod tables;
-#[cfg(test)]
-mod tests;
+pub mod words;
 
 pub use xp_outside::sink::{MemorySink, Sink, SinkFault, WholeSink};
 pub use xp_outside::source::{Failed, MemorySource, Source, WholeSource};

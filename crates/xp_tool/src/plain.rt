@@ -1,52 +1,29 @@
 // The top call: a command's words, its input and its output.
-ghost use Rattle.std.specs.Prelude.{◌≡◌, ◌≢◌, ℕ, ◌<◌, ◌≤◌, ◌-◌, ◌^◌, ◌↔◌, ◌⊎◌, List, length, Some, None, IfSome, IfOk, IfErr, IsSome, string_bytes};
+ghost use Rattle.std.specs.Prelude.{◌≡◌, ◌≢◌, ℕ, ◌<◌, ◌≤◌, ◌-◌, ◌^◌, ◌↔◌, ◌⊎◌, List, length, None, IfOk, IfErr, IsSome, IsSomeAnd};
 ghost use Rattle.xp_outside.specs.Causes.{Rose};
-ghost use Rattle.xp_report.specs.Report.{report_of};
-ghost use Rattle.xp_scenario.specs.Text.{scenario_of};
-ghost use Rattle.xp_tool.specs.Plain.{command_of, Replays, Ran, Headline, Cut, IsBad, WritesSome, Outcome, IsGood, IsWrong};
-ghost use Rattle.xp_tool.specs.Made.{IsMade, IsUnmade, Wrote};
+ghost use Rattle.xp_tool.specs.Command.{LeavesWorld};
+ghost use Rattle.xp_tool.specs.Plain.{plain_command_of, Reads, Headline, Cut, WritesFront, IsBad, IsTooLong, IsGood, IsWrong, IsPastLimit};
+ghost use Rattle.xp_tool.specs.Made.{IsUnread, Wrote, Outcome};
 
+use crate::command::ToolCommand;
+use crate::product::{Made, make};
 use crate::status::{InputFault, Status};
-use std::alloc::Global;
+use crate::words::{Word, command};
+use std::alloc::{AllocError, Global};
 use xp_outside::sink::{Sink, SinkFault, write_all};
 use xp_outside::source::{ReadError, Source, read_all};
-use xp_report::text::report;
-use xp_scenario::text::parse;
 use xp_world::world::World;
 
-/// One argument of the program.
-pub type Word = String;
-
-/// What the program is asked to do.
-#[derive(Clone, Copy, Debug, PartialEq, Eq)]
-pub enum ToolCommand {
-    /// Replays a scenario, and writes the report.
-    Replay,
-}
-
-/// How a call ended, and the world that it left. There is one exactly where the command replays a scenario and the status is `Ok` or
-/// `WriteFault`.
+/// How a call ended, and the world that it left. There is one exactly where the command leaves a
+/// world and the status is `Ok` or `WriteFault`.
 #[derive(Drop)]
 pub struct Done {
     pub status: Status,
     pub end: Option<World>,
 }
 
-/// How many bytes of a scenario are read at most.
-pub const LIMIT: usize = 1_048_576;
-
-/// The command that some words are.
-pub fn command(words: &[Word]) -> Option<ToolCommand>
-    ensures { result ≡ command_of words.now }
-{
-    if words.len() == 1 && words[0].as_bytes() == b"replay".as_slice() {
-        Some(ToolCommand::Replay)
-    } else {
-        None
-    }
-}
-
-/// Does the command that some words are. Nothing is written before the whole text is made.
+/// Does the command that some words are, where it needs no threads. Nothing is written before the
+/// whole text is made.
 pub fn plain<S: Source, K: Sink>(
     alloc: Global,
     words: &[Word],
@@ -57,25 +34,68 @@ pub fn plain<S: Source, K: Sink>(
     requires writes { K.faults sink.old < 2 ^ 64 - 1 }
 
     // Each status has its cause.
-    ensures usage { (result.status ≡ Status.Usage) ↔ (command_of words.now ≡ None) }
-    ensures read { result.status ≡ Status.ReadFault → Rose (S.faults source.old) (S.faults source.new) }
-    ensures write { result.status ≡ Status.WriteFault → Rose (K.faults sink.old) (K.faults sink.new) }
-    ensures bad { result.status ≡ Status.BadInput InputFault.Unbuilt → IfSome (command_of words.now) (λ command. IsBad command (S.left source.old) (S.left source.new)) }
+    ensures usage { result.status ≡ Status.Usage → plain_command_of words.now ≡ None }
+    ensures read { result.status ≡ Status.ReadFault
+        → Rose (S.faults source.old) (S.faults source.new) }
+    ensures write { result.status ≡ Status.WriteFault
+        → Rose (K.faults sink.old) (K.faults sink.new) }
+    ensures bad { (fault : InputFault) → result.status ≡ Status.BadInput fault
+        → IsSomeAnd (plain_command_of words.now)
+        (λ command. IsBad command (S.left source.old) (S.left source.new) fault) }
+    ensures too_long { (limit : ℕ) → result.status ≡ Status.TooLong limit
+        → IsSomeAnd (plain_command_of words.now)
+        (λ command. IsTooLong command (S.left source.old) (S.left source.new) limit) }
 
-    // At Ok the input was read to its end, what the command does was done with it, and the bytes written are exactly its text.
-    ensures ok { result.status ≡ Status.Ok → IfSome (command_of words.now) (λ command. Headline command (S.left source.old) (S.left source.new) (K.held sink.old) (K.held sink.new) result.end) }
+    // At Ok the input was read to its end, what the command does was done with it, and the bytes
+    // written are exactly its text.
+    ensures ok { result.status ≡ Status.Ok
+        → IsSomeAnd (plain_command_of words.now)
+        (λ command. Headline command (S.left source.old) (S.left source.new)
+        (K.held sink.old) (K.held sink.new) result.end) }
 
-    // With a fault of the sink, or for want of memory, a front of the text was written; with every other refusal nothing was.
-    ensures cut { result.status ≡ Status.WriteFault → IfSome (command_of words.now) (λ command. Cut command (S.left source.old) (S.left source.new) (K.held sink.old) (K.held sink.new) result.end) }
-    ensures memory { result.status ≡ Status.NoMemory → IfSome (command_of words.now) (λ command. WritesSome command (S.left source.old) (S.left source.new) (K.held sink.old) (K.held sink.new)) }
-    ensures kept { (result.status ≡ Status.Usage) ⊎ ((result.status ≡ Status.ReadFault) ⊎ (result.status ≡ Status.BadInput InputFault.Unbuilt)) → K.held sink.new ≡ K.held sink.old }
+    // With a fault of the sink a front of the text was written, for want of memory nothing or such
+    // a front. With every other refusal the sink is as before, and where the words aren't a command
+    // the source is too.
+    ensures cut { result.status ≡ Status.WriteFault
+        → IsSomeAnd (plain_command_of words.now)
+        (λ command. Cut command (S.left source.old) (S.left source.new)
+        (K.held sink.old) (K.held sink.new) result.end) }
+    ensures memory { result.status ≡ Status.NoMemory
+        → (sink.new ≡ sink.old) ⊎ IsSomeAnd (plain_command_of words.now)
+        (λ command. WritesFront command (S.left source.old) (S.left source.new)
+        (K.held sink.old) (K.held sink.new)) }
+    ensures kept { result.status ≢ Status.Ok → result.status ≢ Status.WriteFault
+        → result.status ≢ Status.NoMemory → sink.new ≡ sink.old }
+    ensures unread { result.status ≡ Status.Usage → source.new ≡ source.old }
 
-    // There is an end exactly where something was done.
-    ensures end { IsSome result.end ↔ ((result.status ≡ Status.Ok) ⊎ (result.status ≡ Status.WriteFault)) }
+    // A count of faults rises only with the status that tells it.
+    ensures count_of_reads { result.status ≢ Status.ReadFault
+        → S.faults source.new ≡ S.faults source.old }
+    ensures count_of_writes { result.status ≢ Status.WriteFault
+        → K.faults sink.new ≡ K.faults sink.old }
 
-    // Good input that is told is done, and wrong input is refused, but for faults and want of memory.
-    ensures complete { IsGood (command_of words.now) (S.left source.old) → S.faults source.new ≡ S.faults source.old → K.faults sink.new ≡ K.faults sink.old → (result.status ≡ Status.Ok) ⊎ (result.status ≡ Status.NoMemory) }
-    ensures refuses { IsWrong (command_of words.now) (S.left source.old) → S.faults source.new ≡ S.faults source.old → (result.status ≡ Status.BadInput InputFault.Unbuilt) ⊎ (result.status ≡ Status.NoMemory) }
+    // There is an end exactly where something was done that leaves a world.
+    ensures end { IsSome result.end ↔ (IsSomeAnd (plain_command_of words.now) LeavesWorld
+        × ((result.status ≡ Status.Ok) ⊎ (result.status ≡ Status.WriteFault))) }
+
+    // Words that are no command are refused. So is input that is too long or wrong, and good input
+    // is done, but for faults. Want of memory may stand in place of each.
+    ensures no_command { plain_command_of words.now ≡ None
+        → (result.status ≡ Status.Usage) ⊎ (result.status ≡ Status.NoMemory) }
+    ensures complete { IsSomeAnd (plain_command_of words.now)
+        (λ command. IsGood command (S.left source.old))
+        → S.faults source.new ≡ S.faults source.old → K.faults sink.new ≡ K.faults sink.old
+        → (result.status ≡ Status.Ok) ⊎ (result.status ≡ Status.NoMemory) }
+    ensures refuses { IsSomeAnd (plain_command_of words.now)
+        (λ command. IsWrong command (S.left source.old))
+        → S.faults source.new ≡ S.faults source.old
+        → ((fault : InputFault) × (result.status ≡ Status.BadInput fault))
+        ⊎ (result.status ≡ Status.NoMemory) }
+    ensures refuses_long { IsSomeAnd (plain_command_of words.now)
+        (λ command. IsPastLimit command (S.left source.old))
+        → S.faults source.new ≡ S.faults source.old
+        → ((limit : ℕ) × (result.status ≡ Status.TooLong limit))
+        ⊎ (result.status ≡ Status.NoMemory) }
 {
     perform(alloc, words, source, sink)
 }
@@ -84,16 +104,17 @@ pub fn plain<S: Source, K: Sink>(
 fn perform<S: Source, K: Sink>(alloc: Global, words: &[Word], source: &mut S, sink: &mut K) -> Done
     requires reads { S.faults source.old < 2 ^ 64 - 1 }
     requires writes { K.faults sink.old < 2 ^ 64 - 1 }
-    ensures { Outcome result.status (command_of words.now) (S.left source.old) (S.left source.new) (K.held sink.old) (K.held sink.new) (S.faults source.old) (S.faults source.new) (K.faults sink.old) (K.faults sink.new) result.end }
+    ensures { Outcome S.left S.faults K.held K.faults (plain_command_of words.now)
+        source.old source.new sink.old sink.new result.end result.status }
 {
-    let Some(command) = command(words) else {
-        return failed(Status::Usage);
+    let command = match plain_command(alloc, words) {
+        Ok(Some(command)) => command,
+        Ok(None) => return failed(Status::Usage),
+        Err(_) => return failed(Status::NoMemory),
     };
-    let input = match read_all(alloc, source, LIMIT) {
+    let input = match read_input(alloc, command, source) {
         Ok(input) => input,
-        Err(ReadError::Failed) => return failed(Status::ReadFault),
-        Err(ReadError::TooLong) => return failed(Status::BadInput(InputFault::Unbuilt)),
-        Err(ReadError::Memory) => return failed(Status::NoMemory),
+        Err(status) => return failed(status),
     };
     match make(alloc, command, &input) {
         Ok(made) => write_out(sink, made),
@@ -101,56 +122,57 @@ fn perform<S: Source, K: Sink>(alloc: Global, words: &[Word], source: &mut S, si
     }
 }
 
-// What a command made of its input: the world, and its text.
-#[derive(Drop)]
-struct Made {
-    world: World,
-    text: Vec<u8>,
-}
-
-// What the command makes of its input, or why it makes nothing.
-fn make(alloc: Global, command: ToolCommand, input: &[u8]) -> Result<Made, Status>
-    ensures made { IfOk result (λ made. IsMade command input.now made) }
-    ensures unmade { IfErr result (λ status. IsUnmade command input.now status) }
+// The command that some words are, where it needs no threads.
+fn plain_command(alloc: Global, words: &[Word]) -> Result<Option<ToolCommand>, AllocError>
+    ensures { IfOk result (λ command. command ≡ plain_command_of words.now) }
 {
-    match command {
-        ToolCommand::Replay => replay(alloc, input),
+    match command(alloc, words)? {
+        Some(command) if command.is_plain() => Ok(Some(command)),
+        _ => Ok(None),
     }
 }
 
-// Replays the scenario that an input spells, and makes its report.
-fn replay(alloc: Global, input: &[u8]) -> Result<Made, Status>
-    ensures made { IfOk result (λ made. IsMade ToolCommand.Replay input.now made) }
-    ensures unmade { IfErr result (λ status. IsUnmade ToolCommand.Replay input.now status) }
+// Reads the input of a command, or says why there is none.
+fn read_input<S: Source>(
+    alloc: Global,
+    command: ToolCommand,
+    source: &mut S,
+) -> Result<Vec<u8>, Status>
+    requires { S.faults source.old < 2 ^ 64 - 1 }
+    ensures read { IfOk result (λ input.
+        Reads command (S.left source.old) (S.left source.new) input.items) }
+    ensures kept { IfOk result (λ input. S.faults source.new ≡ S.faults source.old) }
+    ensures unread { IfErr result (λ status.
+        IsUnread command (S.left source.old) (S.left source.new)
+        (S.faults source.old) (S.faults source.new) status) }
 {
-    let scenario = match parse(alloc, input) {
-        Ok(Some(scenario)) => scenario,
-        Ok(None) => return Err(Status::BadInput(InputFault::Unbuilt)),
-        Err(_) => return Err(Status::NoMemory),
+    let Some(limit) = command.limit() else {
+        return Ok(Vec::new(alloc));
     };
-    let world = match World::replay(alloc, &scenario) {
-        Ok(world) => world,
-        Err(_) => return Err(Status::NoMemory),
-    };
-    match report(alloc, &world.nodes) {
-        Ok(text) => Ok(Made { world, text }),
-        Err(_) => Err(Status::NoMemory),
+    match read_all(alloc, source, limit) {
+        Ok(input) => Ok(input),
+        Err(ReadError::Failed) => Err(Status::ReadFault),
+        Err(ReadError::TooLong) => Err(Status::TooLong {
+            limit: limit as u64,
+        }),
+        Err(ReadError::Memory) => Err(Status::NoMemory),
     }
 }
 
 // Writes the text that was made.
 fn write_out<K: Sink>(sink: &mut K, made: Made) -> Done
     requires { K.faults sink.old < 2 ^ 64 - 1 }
-    ensures { Wrote made.world made.text.items (K.held sink.old) (K.held sink.new) (K.faults sink.old) (K.faults sink.new) result.end result.status }
+    ensures { Wrote made.product made.text.items (K.held sink.old) (K.held sink.new)
+        (K.faults sink.old) (K.faults sink.new) result.end result.status }
 {
     match write_all(sink, &made.text) {
         Ok(()) => Done {
             status: Status::Ok,
-            end: Some(made.world),
+            end: made.product.into_end(),
         },
         Err(SinkFault::Failed) => Done {
             status: Status::WriteFault,
-            end: Some(made.world),
+            end: made.product.into_end(),
         },
         Err(SinkFault::Memory) => failed(Status::NoMemory),
     }

@@ -4,8 +4,9 @@
 use std::process::ExitCode;
 use std::vec::Vec;
 use std::{env, io};
-use xp_tool::plain::{Word, plain};
+use xp_tool::plain::plain;
 use xp_tool::status::{Status, fault_text};
+use xp_tool::words::Word;
 use xp_tool::{StdSink, StdSource};
 
 fn arguments(rt: &HostRuntime) -> io::Result<Vec<Word>> {
@@ -16,24 +17,32 @@ fn arguments(rt: &HostRuntime) -> io::Result<Vec<Word>> {
     Ok(words)
 }
 
-// The words of the command line. Where they can't be had or one isn't UTF-8 there are none, which is no command.
-fn words(rt: &HostRuntime) -> Vec<Word> {
-    match arguments(rt) {
-        Ok(words) => words,
-        Err(_) => Vec::new(rt.alloc()),
+// Why the words of the command line can't be had: there is no memory for them, or one isn't UTF-8,
+// and so is no command.
+fn refusal(error: &io::Error) -> Status {
+    match error.kind() {
+        io::ErrorKind::OutOfMemory => Status::NoMemory,
+        _ => Status::Usage,
     }
 }
 
-fn main(rt: HostRuntime) -> ExitCode {
-    let words = words(&rt);
+fn run(rt: &HostRuntime) -> Status {
+    let words = match arguments(rt) {
+        Ok(words) => words,
+        Err(error) => return refusal(&error),
+    };
     let mut source = StdSource::new(rt.stdin());
     let mut sink = StdSink::new(rt.stdout());
-    let done = plain(rt.alloc(), &words, &mut source, &mut sink);
-    if done.status != Status::Ok
-        && let Ok(line) = fault_text(rt.alloc(), &done.status)
+    plain(rt.alloc(), &words, &mut source, &mut sink).status
+}
+
+fn main(rt: HostRuntime) -> ExitCode {
+    let status = run(&rt);
+    if status != Status::Ok
+        && let Ok(line) = fault_text(rt.alloc(), &status)
     {
         // Where the line can't be written, the status is all that is told.
         let _ = eprintln!(rt; "{line}");
     }
-    ExitCode::from(done.status.code())
+    ExitCode::from(status.code())
 }

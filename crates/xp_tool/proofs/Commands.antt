@@ -1,0 +1,77 @@
+-- What the top call needs to know of each command. A new command adds a case to each lemma.
+use Rattle.std.proofs.Common.{◌≡◌, ℕ, ◌↔◌, inl, inr, Bool, true, false, List, Result, Ok, Err, IsSome, refl, subst, arith}
+use Rattle.xp_script.specs.declared.scenario.Scenario.{Scenario}
+use Rattle.xp_script.specs.Built.{IsBuilt}
+use Rattle.xp_scenario.specs.declared.fault.ScenarioFault.{ScenarioFault}
+use Rattle.xp_scenario.specs.declared.fault.ScenarioFault.TheVariants as faults
+use Rattle.xp_scenario.specs.Text.{scenario_in}
+use Rattle.xp_tool.specs.declared.command.ToolCommand.{ToolCommand}
+use Rattle.xp_tool.specs.declared.command.ToolCommand.TheVariants.{Replay, Dump, Decode}
+use Rattle.xp_tool.specs.declared.product.Product.{Product}
+use Rattle.xp_tool.specs.declared.product.Product.TheVariants.{Replayed, Told}
+use Rattle.xp_tool.specs.declared.status.InputFault.{InputFault}
+use Rattle.xp_tool.specs.declared.status.InputFault.TheVariants.{BadLine, TooMany, Unbuilt, Page, Trailing}
+use Rattle.xp_base.specs.Memory.{Memory}
+use Rattle.xp_page.specs.Reading.{word_in}
+use Rattle.xp_dump.specs.Grammar.{IsDump, word_allowed}
+use Rattle.xp_tool.specs.Command.{Does, IsReplay, IsTold, IsRefused, IsNoScenario, IsNoDump, LeavesWorld, end_of}
+
+abbrev Spelled : Type 0
+Spelled = Result Scenario ScenarioFault
+
+same_ok : (s t : Scenario) → (x y : Spelled) → x ≡ Ok s → y ≡ Ok t → x ≡ y → s ≡ t
+same_ok s t x y p q e = cc
+
+no_both : (s : Scenario) (fault : ScenarioFault) (x : Spelled) → x ≡ Ok s → x ≡ Err fault → ⊥
+no_both s fault x p q = absurd cc
+
+-- an input whose scenario was replayed has no fault
+replay_good : (input : List ℕ) (made : Product) (fault : InputFault) → IsReplay input made → IsNoScenario input fault → ⊥
+replay_good input (Replayed world) (BadLine line column cause) d r =
+    absurd (no_both d.scenario (faults.BadLine line column cause) (scenario_in input) d.spelled r)
+replay_good input (Replayed world) (TooMany what limit) d r =
+    absurd (no_both d.scenario (faults.TooMany what limit) (scenario_in input) d.spelled r)
+replay_good input (Replayed world) Unbuilt d r =
+    let same : d.scenario ≡ r.scenario = same_ok d.scenario r.scenario (scenario_in input) (scenario_in input) d.spelled r.spelled refl in
+    r.unbuilt (subst (λ (s : Scenario). IsBuilt s) same d.built)
+replay_good input (Replayed world) (Page fault) d r = r
+replay_good input (Replayed world) (Trailing offset) d r = r
+replay_good input (Told words) fault d r = absurd d
+
+both_ways : (b : Bool) → b ≡ true → b ≡ false → ⊥
+both_ways true e f = cc
+both_ways false e f = cc
+
+-- a dump has no fault
+dump_good : (input : List ℕ) (words : Memory) (fault : InputFault) → IsDump input words → IsNoDump input fault → ⊥
+dump_good input words (BadLine line column cause) d r = r
+dump_good input words (TooMany what limit) d r = r
+dump_good input words Unbuilt d r = r
+dump_good input words (Page fault) d (inl bad) =
+    both_ways (word_allowed (word_in input) bad.word) (d.fine.allowed bad.word bad.whole) bad.refused
+dump_good input words (Page fault) d (inr cut) = let short = cut.short in let whole = d.whole in omega (arith, short, whole)
+dump_good input words (Trailing offset) d r = let past = r.past in let whole = d.whole in omega (arith, past, whole)
+
+told_good : (input : List ℕ) (made : Product) (fault : InputFault) → IsTold input made → IsNoDump input fault → ⊥
+told_good input (Replayed world) fault d r = d
+told_good input (Told words) fault d r = dump_good input words fault d r
+
+-- what is done of an input isn't refused
+pub done_good : (c : ToolCommand) (input : List ℕ) (made : Product) (fault : InputFault) → Does c input made → IsRefused c input fault → ⊥
+done_good Replay input made fault d r = replay_good input made fault d r
+done_good Dump input made fault d r = replay_good input made fault d r
+done_good Decode input made fault d r = told_good input made fault d r
+
+replay_leaves : (input : List ℕ) (made : Product) → IsReplay input made → IsSome (end_of made)
+replay_leaves input (Replayed world) d = refl
+replay_leaves input (Told words) d = absurd d
+
+told_leaves : (input : List ℕ) (made : Product) → IsTold input made → IsSome (end_of made) → ⊥
+told_leaves input (Replayed world) d e = d
+told_leaves input (Told words) d e = cc
+
+-- what is done leaves a world where its command leaves one
+pub leaves : (c : ToolCommand) (input : List ℕ) (made : Product) → Does c input made → IsSome (end_of made) ↔ LeavesWorld c
+leaves Replay input made d = ((λ x. tt), λ x. replay_leaves input made d)
+leaves Dump input made d = ((λ x. tt), λ x. replay_leaves input made d)
+leaves Decode input made d = ((λ x. told_leaves input made d x), λ x. absurd x)

@@ -1,0 +1,105 @@
+-- What each command of the program means. A new command adds a case to each definition of this page, and changes no clause of the top call.
+use Rattle.std.specs.Prelude.{◌≡◌, ℕ, ◌⊎◌, List, [], Bool, true, Option, Some, None, Ok, Err}
+use Rattle.xp_dump.specs.Grammar.{dump_bytes, IsDump, IsPast, IsCut}
+use Rattle.xp_dump.specs.Grammar.{IsRefused as HasBadWord}
+use Rattle.xp_listing.specs.Listing.{listing_of}
+use Rattle.xp_script.specs.declared.scenario.Scenario.{Scenario}
+use Rattle.xp_script.specs.Built.{IsBuilt}
+use Rattle.xp_report.specs.Report.{report_of}
+use Rattle.xp_scenario.specs.declared.fault.ScenarioFault.TheVariants as faults
+use Rattle.xp_scenario.specs.Text.{scenario_in}
+use Rattle.xp_world.specs.declared.world.World.{World}
+use Rattle.xp_world.specs.World.{Replayed, IsReady}
+use Rattle.xp_tool.specs.declared.command.TheConstants.{SCENARIO_LIMIT, DUMP_LIMIT}
+use Rattle.xp_tool.specs.declared.command.ToolCommand.{ToolCommand}
+use Rattle.xp_tool.specs.declared.command.ToolCommand.TheVariants.{Replay, Dump, Decode}
+use Rattle.xp_tool.specs.declared.product.Product.{Product}
+use Rattle.xp_tool.specs.declared.product.Product.TheVariants as product
+use Rattle.xp_tool.specs.declared.status.InputFault.{InputFault}
+use Rattle.xp_tool.specs.declared.status.InputFault.TheVariants.{BadLine, TooMany, Unbuilt, Page, Trailing}
+
+-- the command needs no threads
+abbrev pub is_plain : ToolCommand → Bool
+is_plain Replay = true
+is_plain Dump = true
+is_plain Decode = true
+
+-- how many bytes the command reads at most; none where it reads nothing
+abbrev pub limit_of : ToolCommand → Option ℕ
+limit_of Replay = Some SCENARIO_LIMIT
+limit_of Dump = Some SCENARIO_LIMIT
+limit_of Decode = Some DUMP_LIMIT
+
+-- the input spells a scenario, and the world is what its replay leaves
+pub record Replays (input : List ℕ) (world : World) : Type 0 where
+  pub scenario : Scenario
+  pub spelled : scenario_in input ≡ Ok scenario
+  pub built : IsBuilt scenario
+  pub replayed : Replayed scenario world
+  pub ready : IsReady world
+
+-- the input spells a scenario that the rules of today can't run
+pub record IsUnbuilt (input : List ℕ) : Type 0 where
+  pub scenario : Scenario
+  pub spelled : scenario_in input ≡ Ok scenario
+  pub unbuilt : IsBuilt scenario → ⊥
+
+-- the input spells no scenario that can be run, and this fault says where and why
+abbrev pub IsNoScenario : List ℕ → InputFault → Type 0
+IsNoScenario input (BadLine line column cause) =
+    scenario_in input ≡ Err (faults.BadLine line column cause)
+IsNoScenario input (TooMany what limit) = scenario_in input ≡ Err (faults.TooMany what limit)
+IsNoScenario input Unbuilt = IsUnbuilt input
+IsNoScenario input (Page fault) = ⊥
+IsNoScenario input (Trailing offset) = ⊥
+
+-- the input is no dump, and this fault says where and why: its first word that isn't allowed, or
+-- its end where bytes are missing, or the first byte behind a whole dump
+abbrev pub IsNoDump : List ℕ → InputFault → Type 0
+IsNoDump input (BadLine line column cause) = ⊥
+IsNoDump input (TooMany what limit) = ⊥
+IsNoDump input Unbuilt = ⊥
+IsNoDump input (Page fault) = HasBadWord input fault ⊎ IsCut input fault
+IsNoDump input (Trailing offset) = IsPast input offset
+
+-- the input isn't in the command's grammar, or can't be run, and this fault says where and why
+abbrev pub IsRefused : ToolCommand → List ℕ → InputFault → Type 0
+IsRefused Replay input fault = IsNoScenario input fault
+IsRefused Dump input fault = IsNoScenario input fault
+IsRefused Decode input fault = IsNoDump input fault
+
+-- this is a world that the input's scenario leads to
+abbrev pub IsReplay : List ℕ → Product → Type 0
+IsReplay input (product.Replayed world) = Replays input world
+IsReplay input (product.Told words) = ⊥
+
+-- these are the words that the input tells as a dump
+abbrev pub IsTold : List ℕ → Product → Type 0
+IsTold input (product.Replayed world) = ⊥
+IsTold input (product.Told words) = IsDump input words
+
+-- what the command makes of its input
+abbrev pub Does : ToolCommand → List ℕ → Product → Type 0
+Does Replay input made = IsReplay input made
+Does Dump input made = IsReplay input made
+Does Decode input made = IsTold input made
+
+-- the text that the command writes of it; none of what another command makes
+abbrev pub text_of : ToolCommand → Product → List ℕ
+text_of Replay (product.Replayed world) = report_of world.nodes.items
+text_of Replay (product.Told words) = []
+text_of Dump (product.Replayed world) = dump_bytes world.words
+text_of Dump (product.Told words) = []
+text_of Decode (product.Replayed world) = []
+text_of Decode (product.Told words) = listing_of words
+
+-- the world that is left of it
+abbrev pub end_of : Product → Option World
+end_of (product.Replayed world) = Some world
+end_of (product.Told words) = None
+
+-- the command leaves a world
+abbrev pub LeavesWorld : ToolCommand → Type 0
+LeavesWorld Replay = Unit {0}
+LeavesWorld Dump = Unit {0}
+LeavesWorld Decode = ⊥

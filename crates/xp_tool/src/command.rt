@@ -1,0 +1,40 @@
+// The program's commands.
+ghost use Rattle.std.specs.Prelude.{◌≡◌};
+ghost use Rattle.xp_tool.specs.Command.{is_plain, limit_of};
+
+/// What the program is asked to do.
+#[derive(Clone, Copy)]
+pub enum ToolCommand {
+    /// Replays a scenario, and writes the report.
+    Replay,
+    /// Replays a scenario, and writes the dump of the words that it leaves.
+    Dump,
+    /// Reads a dump, and writes its listing.
+    Decode,
+}
+
+/// How many bytes a scenario has at most.
+pub const SCENARIO_LIMIT: usize = 1_048_576;
+/// How many bytes a dump has at most.
+pub const DUMP_LIMIT: usize = 33_554_432;
+
+impl ToolCommand {
+    /// Whether it needs no threads, so that `plain` does it.
+    pub fn is_plain(&self) -> bool
+        ensures { result ≡ is_plain self.now }
+    {
+        match self {
+            ToolCommand::Replay | ToolCommand::Dump | ToolCommand::Decode => true,
+        }
+    }
+
+    /// How many bytes of input it reads at most. A command without a limit reads nothing.
+    pub fn limit(&self) -> Option<usize>
+        ensures { result ≡ limit_of self.now }
+    {
+        match self {
+            ToolCommand::Replay | ToolCommand::Dump => Some(SCENARIO_LIMIT),
+            ToolCommand::Decode => Some(DUMP_LIMIT),
+        }
+    }
+}
