@@ -1,0 +1,5 @@
+pub mod Closing
+pub mod PassLemmas
+pub mod RuleLemmas
+pub mod StepLemmas
+pub mod Weaving
