@@ -1,0 +1,17 @@
+pub mod Parts
+pub mod Records
+pub mod Effects
+pub mod Sending
+pub mod Pulling
+pub mod Releasing
+pub mod State
+pub mod Linking
+pub mod Peering
+pub mod Rules
+pub mod Decode
+pub mod Acts
+pub mod Runs
+pub mod Logged
+pub mod Reached
+pub mod Promised
+pub mod Wanting
