@@ -3,10 +3,9 @@
 # crates/xpsim/out/xpsim. It makes its scenarios itself:
 #   idle  16,000,000 written turns: a take that no message comes for, beside a partition that has ended
 #   busy  22,000 messages sent, taken and released through a queue of 8 entries, in 16,000,000 written turns
-# Where rustc is there, bench/baseline.rs replays them too: a plain program that proves nothing and keeps no history.
-# Where the program crates/xp_bench/out/xp_bench is built (`rt run -- 1 1 40` in crates/xp_bench builds it), it replays
-# partitions that are busy in pairs, which no text spells yet:
-#   pairs 32,000 messages sent, taken and released: all by one pair of partitions, and a quarter each by four pairs
+#   pairs 5,500 messages in each of four pairs of partitions, in 16,000,000 written turns
+# Where rustc is there, bench/baseline.rs replays the first two: a plain program that proves nothing, keeps no history and
+# knows two partitions alone.
 # Times are processor seconds, of the program and of the system for it. Other load makes them longer.
 set -u
 
@@ -34,6 +33,21 @@ make_busy() {
         print "script 1"
         for (k = 0; k < messages; k++) print "take 0 0\nrelease 0 0 " k
         print "schedule\nrounds 8000000"
+    }'
+}
+
+make_pairs() {
+    awk 'BEGIN {
+        messages = 5500
+        print "xpsim 1\npartitions 8"
+        for (p = 0; p < 8; p += 2) print "warm " p " " p + 1 " 0 entries 8 limit 112"
+        for (p = 0; p < 8; p += 2) {
+            print "script " p
+            for (k = 0; k < messages; k++) print "send " p + 1 " 0 6869"
+            print "script " p + 1
+            for (k = 0; k < messages; k++) print "take " p " 0\nrelease " p " 0 " k
+        }
+        print "schedule\nrounds 2000000"
     }'
 }
 
@@ -80,7 +94,7 @@ if command -v rustc >/dev/null 2>&1; then
 fi
 
 failed=0
-for name in idle busy; do
+for name in idle busy pairs; do
     "make_$name" >"$folder/$name.xp"
     echo "$name: $turns written turns"
     if ! read -r seconds memory < <(measure "$folder/$name.xp" "$folder/$name.report" "$program" replay); then
@@ -89,7 +103,7 @@ for name in idle busy; do
         continue
     fi
     line xpsim "$seconds" "$memory" "$turns"
-    [ -n "$baseline" ] || continue
+    [ -n "$baseline" ] && [ "$name" != pairs ] || continue
     read -r plain_seconds plain_memory < <(measure "$folder/$name.xp" "$folder/$name.plain" "$baseline" replay) || continue
     line baseline "$plain_seconds" "$plain_memory" "$turns"
     awk -v a="$seconds" -v b="$plain_seconds" 'BEGIN { if (b > 0) printf "  ratio %.1f\n", a / b }'
@@ -99,27 +113,4 @@ for name in idle busy; do
     fi
 done
 
-# busy_pairs COUNT: the messages in so many pairs of partitions. A message takes a partition at most 19 steps of its script,
-# which has at least every other turn.
-busy_pairs() {
-    local messages=$((all_messages / $1)) seconds memory made acked
-    read -r seconds memory < <(measure /dev/null "$folder/pairs" "$pairs_program" "$1" "$messages" $((40 * messages))) || return 1
-    read -r _ _ _ made _ acked <"$folder/pairs"
-    if [ "$acked" != "$all_messages" ]; then
-        echo "  $acked messages were acknowledged"
-        return 1
-    fi
-    line "$1 pairs" "$seconds" "$memory" "$made"
-}
-
-all_messages=32000
-pairs_program="$(dirname "$here")/crates/xp_bench/out/xp_bench"
-if [ -x "$pairs_program" ]; then
-    echo "pairs: $all_messages messages"
-    for count in 1 4; do
-        busy_pairs "$count" || failed=1
-    done
-else
-    echo "pairs: skipped, crates/xp_bench isn't built"
-fi
 exit $failed
