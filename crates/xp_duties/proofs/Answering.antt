@@ -23,7 +23,7 @@ use Rattle.xp_rules.specs.Rules.{after_answer, beside_of, pull_numbered, end_pul
 use Rattle.xp_rules.specs.Acts.{MayActs, after_act, after_acts, current, due, due_to, decided_or, drained, take_told, end_noticed}
 use Rattle.xp_rules.specs.Runs.{May, after_step}
 use Rattle.xp_rules.specs.Windows.{answers}
-use Rattle.xp_pull.specs.Side.{take_step}
+use Rattle.xp_warm_pull.specs.Side.{take_step}
 use Rattle.xp_duties.specs.Plan.{position, is_barred, end_plan, plan_for, script_plan, service_at, first_rule}
 use Rattle.xp_duties.specs.Diligent.{rule_made, IsDiligent}
 use Rattle.xp_duties.proofs.Counters.{same_take}

@@ -17,7 +17,7 @@ use Rattle.xp_rules.specs.Rules.{after_answer}
 use Rattle.xp_rules.specs.Acts.{after_act, current, due, due_to, decided_or}
 use Rattle.xp_rules.specs.Runs.{owes_get}
 use Rattle.xp_rules.specs.Windows.{SomeTurn, Steps, sends_on, SendsOn, Acknowledges, IsGoing}
-use Rattle.xp_ring.specs.Side.{step_after, plan_of}
+use Rattle.xp_warm_ring.specs.Side.{step_after, plan_of}
 use Rattle.xp_duties.specs.Plan.{ring_at}
 use Rattle.xp_rules.proofs.Opened.{number_low}
 use Rattle.xp_rules.proofs.Targets.{SendsTo, ReleasesAt}

@@ -18,7 +18,7 @@ use Rattle.xp_rules.specs.Rules.{Can, after_answer, beside_of, pull_numbered, en
 use Rattle.xp_rules.specs.Acts.{after_act, current, due, due_to, take_told, end_noticed}
 use Rattle.xp_rules.specs.Runs.{after_step, after_turn}
 use Rattle.xp_rules.specs.Windows.{SomeTurn, Steps, TakesOn, IsGoing}
-use Rattle.xp_pull.specs.Side.{take_step}
+use Rattle.xp_warm_pull.specs.Side.{take_step}
 use Rattle.xp_duties.specs.Plan.{script_plan}
 use Rattle.xp_duties.specs.Diligent.{rule_made}
 use Rattle.xp_rules.proofs.Ends.{Other, here_or, stays_end, set_here, set_other, at_flagged}

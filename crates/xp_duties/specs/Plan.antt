@@ -10,12 +10,12 @@ use Rattle.xp_rules.specs.declared.rule.Rule.{Rule}
 use Rattle.xp_rules.specs.declared.rule.Rule.TheVariants.{Ring, Pull, Acknowledge, TakeFlags, SetFlag}
 use Rattle.xp_script.specs.declared.part.Link.{Link}
 use Rattle.xp_rules.specs.declared.setup.Setup.{Setup}
-use Rattle.xp_pull.specs.Side.{take_step}
+use Rattle.xp_warm_pull.specs.Side.{take_step}
 use Rattle.xp_rules.specs.Pulling.{take_due}
 use Rattle.xp_rules.specs.State.{State, End, end_of, engage_of}
 use Rattle.xp_rules.specs.Runs.{owes_get}
 use Rattle.xp_rules.specs.Acts.{current, partner_named, end_named}
-use Rattle.xp_ring.specs.Side.{side_plan}
+use Rattle.xp_warm_ring.specs.Side.{side_plan}
 
 -- the step of a command in progress: a take loads the next word of an entry where one is there, and
 -- else the counters; a drain makes none

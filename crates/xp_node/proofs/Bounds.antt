@@ -29,7 +29,7 @@ use Rattle.xp_rules.proofs.Slots.{at_end}
 use Rattle.xp_rules.proofs.Opened.{opened_fact}
 use Rattle.xp_rules.proofs.Ends.{owed_end, at_flagged}
 use Rattle.xp_node.specs.declared.turns.Made.{Made}
-use Rattle.xp_channel.specs.End.{HasEndRoom}
+use Rattle.xp_warm_channel.specs.End.{HasEndRoom}
 use Rattle.xp_node.specs.Held.{HasRoom, channel_of, begun_acts, noticed_acts, first_asked, answered_acts, told_acts}
 use Rattle.xp_node.specs.Turns.{turn_of, turns_from, steps_left}
 use Rattle.xp_node.proofs.Noticing.{acts-append}

@@ -3,7 +3,7 @@ use Rattle.std.proofs.Common.{◌≡◌, ℕ, zero, suc, ◌<◌, ◌≤◌, Lis
 use Rattle.xp_rules.specs.declared.commands.ChannelCommand.{ChannelCommand}
 use Rattle.xp_rules.specs.declared.commands.ChannelCommand.TheVariants.{Send, Take, Release, Drain}
 use Rattle.xp_rules.specs.Acts.{partner_named, channel_named}
-use Rattle.xp_channel.specs.End.{IsShort}
+use Rattle.xp_warm_channel.specs.End.{IsShort}
 use Rattle.xp_script.specs.declared.part.Link.{Link}
 use Rattle.xp_rules.specs.declared.setup.Setup.{Setup}
 use Rattle.xp_rules.specs.Setup.{IsPeer, IsSize, IsLawfulLink, AreLawfulLinks, IsLawfulCommand, IsLawfulSetup}

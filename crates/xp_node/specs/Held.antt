@@ -13,7 +13,7 @@ use Rattle.xp_rules.specs.declared.setup.Setup.{Setup}
 use Rattle.xp_rules.specs.State.{State, End, end_of}
 use Rattle.xp_rules.specs.Rules.{begun_more, partner_of}
 use Rattle.xp_rules.specs.Acts.{notice_due}
-use Rattle.xp_channel.specs.End.{HasEndRoom}
+use Rattle.xp_warm_channel.specs.End.{HasEndRoom}
 
 -- no count is near its type's end
 pub record HasRoom (st : State) : Type 0 where

@@ -5,8 +5,8 @@ ghost use Rattle.xp_rules.specs.State.{idle_end, idle_ends, opened_ends};
 ghost use Rattle.xp_rules.specs.Runs.{some_owe, any_owes};
 ghost use Rattle.xp_rules.specs.Flags.{is_bad_flags, ends_requested};
 
-use xp_channel::end::LinkEnd;
 use xp_rules::setup::Setup;
+use xp_warm_channel::end::LinkEnd;
 
 fn four_idle() -> [LinkEnd; 4]
     ensures { result ≡ replicate 4 idle_end }

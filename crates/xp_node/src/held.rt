@@ -8,7 +8,7 @@ ghost use Rattle.xp_rules.specs.State.{start, end_of, set_end, engage_of};
 ghost use Rattle.xp_rules.specs.Rules.{Can, pull_mark, wanted_of, wants_notice};
 ghost use Rattle.xp_rules.specs.Runs.{is_done};
 ghost use Rattle.xp_rules.specs.Acts.{partner_named, current, begun_with, after_acts, MayActs, due, due_to, ends_answered, notice_due, end_noticed};
-ghost use Rattle.xp_channel.specs.End.{IsShort};
+ghost use Rattle.xp_warm_channel.specs.End.{IsShort};
 ghost use Rattle.xp_node.specs.Held.{HasRoom, begun_acts, answered_acts};
 ghost use Rattle.xp_node.specs.Kept.{take_place};
 ghost use Rattle.xp_duties.specs.Diligent.{CanBegin};
@@ -23,13 +23,13 @@ use xp_base::body::Body;
 use xp_base::ids::{Channel, PartId};
 use xp_base::places::{counters, flag_word};
 use xp_base::step::{CopyMark, Op, OpKind, Wanted};
-use xp_channel::end::{LinkEnd, message_flag};
 use xp_rules::commands::ChannelCommand;
 use xp_rules::copies::Copies;
 use xp_rules::engage::Engagement;
 use xp_rules::rule::{PullRule, Rule};
 use xp_rules::setup::Setup;
 use xp_script::log::LogAnswer;
+use xp_warm_channel::end::{LinkEnd, message_flag};
 
 /// The machines of a partition. Contracts see what it knows.
 #[derive(Drop)]

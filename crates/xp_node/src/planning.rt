@@ -4,9 +4,9 @@ ghost use Rattle.xp_rules.specs.Acts.{partner_named, channel_named};
 ghost use Rattle.xp_node.specs.Held.{EndMakes};
 ghost use Rattle.xp_duties.specs.Plan.{end_plan};
 
-use xp_channel::end::LinkEnd;
 use xp_rules::commands::ChannelCommand;
 use xp_rules::rule::Rule;
+use xp_warm_channel::end::LinkEnd;
 
 /// The partner and the channel that a command names, as places of the end.
 pub fn target(command: &ChannelCommand) -> (usize, usize)

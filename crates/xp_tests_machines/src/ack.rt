@@ -1,10 +1,10 @@
 // Four messages released in every order, and notices by value.
 use std::process::Abort;
-use xp_ack::notices::{How, Notice, Notices};
-use xp_ack::side::AckSide;
 use xp_base::answer::ReleaseAnswer;
 use xp_base::link::LinkState;
 use xp_base::reason::Reason;
+use xp_warm_ack::notices::{How, Notice, Notices};
+use xp_warm_ack::side::AckSide;
 
 /// The numbers in the order of their release, and the front after each of them.
 const ORDERS: [([u64; 4], [u64; 4]); 24] = [

@@ -9,8 +9,8 @@ use xp_base::reason::Reason;
 use xp_base::session::Session;
 use xp_base::step::{Answer, Op, OpKind};
 use xp_base::words::Words;
-use xp_channel::{ChannelEnd, LinkAnswer, LinkCommand, Work};
 use xp_flags::flags::Flags;
+use xp_warm_channel::{ChannelEnd, LinkAnswer, LinkCommand, Work};
 
 const FIRST: Session = Session { stamp: 1, count: 1 };
 

@@ -6,8 +6,8 @@ use xp_base::link::LinkState;
 use xp_base::places::{counters, entry};
 use xp_base::reason::Reason;
 use xp_base::step::{Answer, CopyKind};
-use xp_pull::side::PullSide;
 use xp_rules::rule::PullRule;
+use xp_warm_pull::side::PullSide;
 
 fn own() -> PartId {
     PartId::known(1)

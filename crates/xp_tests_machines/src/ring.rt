@@ -6,8 +6,8 @@ use xp_base::link::LinkState;
 use xp_base::places::{counters, entry};
 use xp_base::reason::Reason;
 use xp_base::step::{Answer, OpKind};
-use xp_ring::side::SendSide;
 use xp_rules::rule::RingRule;
+use xp_warm_ring::side::SendSide;
 
 /// What is done with a side.
 #[derive(Clone, Copy)]
