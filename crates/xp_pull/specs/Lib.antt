@@ -1,0 +1,6 @@
+pub mod Planned
+pub mod Outcome
+pub mod Cached
+pub mod Keeping
+pub mod Taking
+pub mod ReceiverInside
