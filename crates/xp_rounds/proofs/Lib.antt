@@ -1,0 +1,6 @@
+pub mod Comes
+pub mod Visits
+pub mod Duties
+pub mod Spots
+pub mod Sources
+pub mod Asked
