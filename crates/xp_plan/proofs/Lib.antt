@@ -1,0 +1,6 @@
+pub mod Choices
+pub mod Words
+pub mod EndsCan
+pub mod PeersCan
+pub mod Permits
+pub mod Visiting

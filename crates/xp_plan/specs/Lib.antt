@@ -1,0 +1,4 @@
+pub mod EndSteps
+pub mod PeerSteps
+pub mod Plan
+pub mod Sound
