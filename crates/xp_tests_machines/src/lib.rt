@@ -1,5 +1,5 @@
-//! Tests of the machines of a channel: its sending side, its receiving side, what was taken and not released, the two ends together, and
-//! the plain data beside the rules.
+//! Tests of the machines of a channel: its sending side, its receiving side, what was taken and not released, the two ends together,
+//! the rounds of a partition, and the plain data beside the rules.
 #![tactic(auto)]
 
 #[cfg(test)]
@@ -10,5 +10,7 @@ mod channel;
 mod pull;
 #[cfg(test)]
 mod ring;
+#[cfg(test)]
+mod rounds;
 #[cfg(test)]
 mod rules;
