@@ -40,11 +40,18 @@ pub fn write_payload(out: &mut String, bytes: &[u8]) -> Result<(), AllocError>
     write_run(out, before, count, byte)
 }
 
+/// Whether so many equal bytes are too few to be a piece of their own.
+fn is_short(count: u64) -> bool
+    ensures { result ≡ nat_lt count SHORTEST_RUN }
+{
+    count < SHORTEST_RUN
+}
+
 /// What stands before the bytes after a run of so many.
 fn after(count: u64) -> Before
     ensures { result ≡ after (run_of count 0) }
 {
-    if count < SHORTEST_RUN {
+    if is_short(count) {
         Before::Digits
     } else {
         Before::Piece
@@ -57,7 +64,7 @@ fn write_run(out: &mut String, before: Before, count: u64, byte: u8) -> Result<(
     ensures { Appends result out.old out.new (run_text before (run_of count byte)) }
 {
     let alloc = *out.allocator();
-    if count < SHORTEST_RUN {
+    if is_short(count) {
         let bytes = vec![in alloc; byte; count as usize]?;
         let digits = hex::encode(alloc, bytes.as_slice())?;
         match before {
