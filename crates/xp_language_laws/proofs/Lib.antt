@@ -1,0 +1,10 @@
+pub mod Lexing
+pub mod PayloadRuns
+pub mod FormsPrinted
+pub mod CommandLines
+pub mod MadeTexts
+pub mod SettingLines
+pub mod ScriptLines
+pub mod WholeTexts
+pub mod PokeLines
+pub mod DraftTotals

@@ -1,0 +1,6 @@
+//! Laws of the language of scenarios.
+#![tactic(auto)]
+
+pub mod pokes;
+pub mod texts;
+pub mod totals;
