@@ -2,15 +2,15 @@ mod Direction
 mod Ring
 mod FlagEnds
 mod FlagKept
-mod Books
+pub mod Books
 mod Ways
 mod Rests
 mod Fields
-mod Lines
+pub mod Lines
 mod FlagUse
 mod Arguments
-mod Steps
-mod Shakes
+pub mod Steps
+pub mod Shakes
 mod Registers
 mod Contacts
 mod Peers
@@ -18,15 +18,15 @@ mod Places
 mod Moves
 mod Queue
 mod Withdrawn
-mod Headline
+pub mod Headline
 mod Freed
-mod Notices
-mod Own
-mod Owns
-mod Before
+pub mod Notices
+pub mod Own
+pub mod Owns
+pub mod Before
 mod Guard
-mod Reuses
-mod NoticesKept
+pub mod Reuses
+pub mod NoticesKept
 mod Uses
 mod Witness
 mod Widest

@@ -32,7 +32,7 @@ use Rattle.xp_promises.proofs.Before.{part_at}
 use Rattle.xp_promises.proofs.Reuses.{whole_both}
 
 -- no notice is due
-abbrev NoneDue : State → ℕ → ℕ → Type 0
+abbrev pub NoneDue : State → ℕ → ℕ → Type 0
 NoneDue st q c = (how : NoticeKind) → notice_due how (end_of st q c) ≡ None
 
 fresh_due : (e : End) → e.sides.pending_notices ≡ [] → e.ended ≡ [] → (how : NoticeKind) → notice_due how e ≡ None
@@ -48,7 +48,7 @@ booted_due st su q c how =
 opened_due : (su : ScenarioPart) (q c : ℕ) (how : NoticeKind) → notice_due how (end_of (opened_state su) q c) ≡ None
 opened_due su q c how = opened_fact su q c (λ e. notice_due how e ≡ None) (fresh_due idle_end refl refl how) (λ l. fresh_due (warm_end su.part l) refl refl how)
 
-first_due : (su : ScenarioPart) (q c : ℕ) (how : NoticeKind) → notice_due how (end_of (start su) q c) ≡ None
+pub first_due : (su : ScenarioPart) (q c : ℕ) (how : NoticeKind) → notice_due how (end_of (start su) q c) ≡ None
 first_due su q c how =
     let now = opened_state su in
     by (restart_comes su 0 now && not (is_over now)) (stop_comes su 0 now && not (is_over now)) where
@@ -57,7 +57,7 @@ first_due su q c how =
       by false true = opened_due su q c how
       by false false = opened_due su q c how
 
-turn_due : (su : ScenarioPart) (st : State) (t : Turn) (q c : ℕ) → q < su.count → c < 4 → May su st t → NoneDue (after_turn su st t) q c
+pub turn_due : (su : ScenarioPart) (st : State) (t : Turn) (q c : ℕ) → q < su.count → c < 4 → May su st t → NoneDue (after_turn su st t) q c
 turn_due su st t q c lq lc may how =
     let now = turn_counted (acted su st t) in
     by (restart_comes su st.clock.puts now && not (is_over now)) (stop_comes su st.clock.puts now && not (is_over now)) where
@@ -66,7 +66,7 @@ turn_due su st t q c lq lc may how =
       by false true = may.noticed q c how lq lc
       by false false = may.noticed q c how lq lc
 
-turns_due : (su : ScenarioPart) (st : State) (ts : List Turn) (q c : ℕ) → q < su.count → c < 4 → RunsFrom su st ts → NoneDue st q c → NoneDue (state_after su st ts) q c
+pub turns_due : (su : ScenarioPart) (st : State) (ts : List Turn) (q c : ℕ) → q < su.count → c < 4 → RunsFrom su st ts → NoneDue st q c → NoneDue (state_after su st ts) q c
 turns_due su st [] q c lq lc r h = h
 turns_due su st (t ∷ ts) q c lq lc r h = turns_due su (after_turn su st t) ts q c lq lc r.1 (turn_due su st t q c lq lc r.0)
 

@@ -152,11 +152,11 @@ new_live v r i a b c d e f g = record {
   requested = g;
 }
 
-or_true : (a : Bool) → (a || true) ≡ true
+pub or_true : (a : Bool) → (a || true) ≡ true
 or_true true = refl
 or_true false = refl
 
-no_reason : (a : Bool) (o : Option Reason) → (a || is_some o) ≡ false → o ≡ None
+pub no_reason : (a : Bool) (o : Option Reason) → (a || is_some o) ≡ false → o ≡ None
 no_reason a None h = refl
 no_reason true (Some r) h = absurd (cc)
 no_reason false (Some r) h = absurd (cc)
@@ -343,7 +343,7 @@ module _ (q c : ℕ) where
     by false on = calm e (just e) refl refl tt
 
   -- a flag is sent
-  sent_begun : (k : Kind) → (k ≡ MsgRequest → ⊥) → (e : End) → is_begun (end_sent k e) ≡ true
+  pub sent_begun : (k : Kind) → (k ≡ MsgRequest → ⊥) → (e : End) → is_begun (end_sent k e) ≡ true
   sent_begun MsgRequest n e = absurd (n refl)
   sent_begun OpenComplete n e = refl
   sent_begun OpenRequest n e = ap (λ (b : Bool). b || is_some e.shake.reason) (or_true e.shake.sent.open_complete)

@@ -1,0 +1,7 @@
+mod Flow
+mod Cascades
+mod Changes
+mod Parts
+mod Anew
+mod Tally
+mod Recorded

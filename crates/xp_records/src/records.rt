@@ -1,0 +1,26 @@
+// What the records of every history that is reached say.
+ghost use Rattle.std.specs.Prelude.{List};
+ghost use Rattle.xp_base.specs.History.{Event};
+ghost use Rattle.xp_base.specs.Memory.{Memory};
+ghost use Rattle.xp_script.specs.declared.scenario.Scenario.{Scenario};
+ghost use Rattle.xp_script.specs.Lawful.{IsLawful};
+ghost use Rattle.xp_protocol.specs.Reached.{ReachedWords};
+ghost use Rattle.xp_records.specs.Anew.{SidesAnew};
+ghost use Rattle.xp_records.specs.Noticed.{NoticesRecorded};
+
+/// Whatever history the rules reach in a lawful scenario: until an end sends the open request of an
+/// epoch its sending side is as new, and until it handles the partner's its receiving side is. So no
+/// send is in progress and nothing is copied where an open request gives a side its size.
+pub fn sides_anew()
+    ensures { (s : Scenario) → IsLawful s →
+        (h : List Event) (m : Memory) → ReachedWords s h m → SidesAnew s h }
+{}
+
+/// Whatever history the rules reach in a lawful scenario: the numbers that the records of an end
+/// have as delivered, and those that they have as ended, are exactly the notices that were given at
+/// it, in their order, turn by turn; and a record has none as ended without the reason for which its
+/// connection is over.
+pub fn notices_recorded()
+    ensures { (s : Scenario) → IsLawful s →
+        (h : List Event) (m : Memory) → ReachedWords s h m → NoticesRecorded s h }
+{}
