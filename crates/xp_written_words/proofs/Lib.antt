@@ -1,0 +1,9 @@
+mod Fits
+mod Ends
+mod Peers
+mod Parts
+mod Rules
+mod Boots
+mod Opening
+mod Reached
+mod Dumps
