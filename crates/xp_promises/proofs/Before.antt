@@ -24,7 +24,7 @@ use Rattle.xp_meetings.proofs.Always.{IsPart, at_one, one_kept, does_rule, answe
 use Rattle.xp_meetings.proofs.Opening.{opening_words, agrees_opening}
 
 -- prefixes
-Legal-prefix : (es fs : List Event) (a c : Memory) → Legal a (es ++ fs) c → Legal a es (memory_by a es) × Legal (memory_by a es) fs c
+pub Legal-prefix : (es fs : List Event) (a c : Memory) → Legal a (es ++ fs) c → Legal a es (memory_by a es) × Legal (memory_by a es) fs c
 Legal-prefix [] fs a c h = (refl, h)
 Legal-prefix (e ∷ es) fs a c h = let r = Legal-prefix es fs (happens a e) c h.1 in ((h.0, r.0), r.1)
 

@@ -87,7 +87,7 @@ and_bits w a k q i la li n = by (eqb k q) refl where
   by false e = refl
   by true e = and_else (w k (Open ENGAGED)) a i la li n ∙ ap (λ (x : ℕ). bit_at (w x (Open ENGAGED)) i) (eqb-true k q e)
 
-bits_kept : (su : ScenarioPart) (st : State) (r : Rule) (w : Words) (q i : ℕ) → su.part < PARTS → i < PARTS → (su.part ≡ i → ⊥) → bit_at (does_rule su st r w q (Open ENGAGED)) i ≡ bit_at (w q (Open ENGAGED)) i
+pub bits_kept : (su : ScenarioPart) (st : State) (r : Rule) (w : Words) (q i : ℕ) → su.part < PARTS → i < PARTS → (su.part ≡ i → ⊥) → bit_at (does_rule su st r w q (Open ENGAGED)) i ≡ bit_at (w q (Open ENGAGED)) i
 bits_kept su st (Link k c (Ring ReadGet)) w q i a b n = refl
 bits_kept su st (Link k c (Ring (WriteEntryWord f))) w q i a b n = refl
 bits_kept su st (Link k c (Ring AcceptMessage)) w q i a b n = refl

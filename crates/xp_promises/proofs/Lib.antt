@@ -9,14 +9,25 @@ mod Fields
 pub mod Lines
 mod FlagUse
 mod Arguments
+pub mod Direction
+pub mod Ring
+pub mod FlagEnds
+pub mod FlagKept
+pub mod Books
+pub mod Ways
+pub mod Rests
+pub mod Fields
+pub mod Lines
+pub mod FlagUse
+pub mod Arguments
 pub mod Steps
 pub mod Shakes
 mod Registers
-mod Contacts
+pub mod Contacts
 mod Peers
-mod Places
-mod Moves
-mod Queue
+pub mod Places
+pub mod Moves
+pub mod Queue
 mod Withdrawn
 pub mod Headline
 mod Freed
@@ -27,6 +38,13 @@ pub mod Before
 mod Guard
 pub mod Reuses
 pub mod NoticesKept
+mod Notices
+pub mod Own
+pub mod Owns
+pub mod Before
+pub mod Guard
+pub mod Reuses
+mod NoticesKept
 mod Uses
 mod Witness
 mod Widest

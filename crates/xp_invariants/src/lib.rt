@@ -1,0 +1,18 @@
+//! What holds between every two partitions after every history that partitions make by the rules:
+//! guest and host, sessions, the queue of flags, the line.
+#![tactic(auto)]
+
+ghost use Rattle.std.specs.Prelude.{List};
+ghost use Rattle.xp_base.specs.History.{Event};
+ghost use Rattle.xp_base.specs.Memory.{Memory};
+ghost use Rattle.xp_invariants.specs.Hosts.{GuestAndHost};
+ghost use Rattle.xp_protocol.specs.Reached.{ReachedWords};
+ghost use Rattle.xp_script.specs.Lawful.{IsLawful};
+ghost use Rattle.xp_script.specs.declared.scenario.Scenario.{Scenario};
+
+/// Whatever history the rules reach in a lawful scenario: a partition's bit at another says that its
+/// own area for the other is open or being left, and keeps the other's area for it as it is.
+pub fn guests_and_hosts()
+    ensures { (s : Scenario) → IsLawful s →
+        (h : List Event) (m : Memory) → ReachedWords s h m → GuestAndHost s h }
+{}
