@@ -1,6 +1,6 @@
 -- The dump of a memory in the grammar tells that memory, and no other.
-use Rattle.std.proofs.Common.{◌≡◌, ℕ, zero, suc, ◌+◌, ◌-◌, ◌*◌, ◌/◌, ◌%◌, ◌^◌, ◌<◌, ◌≤◌, true, List, [], ◌∷◌, ◌++◌, length, get_or, refl, ap, sym, ◌∙◌, subst, arith, inl, inr, nat_lt}
-use Rattle.std.specs.Prelude.{Result, Ok, Err, MatchResult, Option, None}
+use Rattle.std.proofs.Common.{◌≡◌, ℕ, zero, suc, ◌+◌, ◌-◌, ◌*◌, ◌/◌, ◌%◌, ◌^◌, ◌<◌, ◌≤◌, true, false, List, [], ◌∷◌, ◌++◌, length, get_or, refl, ap, sym, ◌∙◌, subst, arith, inl, inr, nat_lt}
+use Rattle.std.specs.Prelude.{Result, Ok, Err, IfErr, MatchResult, Option, None}
 use Rattle.std.specs.List.{concat}
 use Rattle.std.proofs.lemmas.Bool.{cases_lt}
 use Rattle.std.proofs.lemmas.Bool.Decides.{nat_tests}
@@ -18,13 +18,13 @@ use Rattle.xp_dump_table.specs.Layouts.{words_of, field_of}
 use Rattle.xp_dump.specs.declared.writer.TheConstants.{NEWER_HEADER}
 use Rattle.xp_dump.specs.declared.fault.DumpFault.{DumpFault}
 use Rattle.xp_dump.specs.declared.fault.DumpFault.TheVariants.{Page, Trailing, Memory as NoMemory}
-use Rattle.xp_dump.specs.Grammar.{Numbered, dump_bytes, is_header, is_count, layout_of, total, number_of, owner_at, index_at, version_before, part_row, row_at_word, word_allowed, AreWordsOf, IsDump, IsMissing, IsInGrammar}
+use Rattle.xp_dump.specs.Grammar.{Numbered, dump_bytes, is_header, is_count, layout_of, total, number_of, owner_at, index_at, version_before, part_row, row_at_word, word_allowed, AreWordsOf, IsFault, IsDump, IsMissing, IsInGrammar}
 use Rattle.xp_dump_table.specs.Table.{memory_word}
-use Rattle.xp_dump.proofs.Same.{number_back, later_word}
+use Rattle.xp_dump.proofs.Same.{number_back, later_word, fault_stays}
 use Rattle.xp_dump.specs.declared.tape.Tape.{Tape}
 use Rattle.xp_dump.specs.Standing.{IsStanding}
 use Rattle.xp_dump.specs.Tapes.{IsRead}
-use Rattle.xp_dump.specs.Progress.{Progress, Reading, IsFinished, progress_of}
+use Rattle.xp_dump.specs.Progress.{Progress, Reading, Faulted, IsFed, IsFinished, IsFrontOf, progress_of}
 
 -- the words of a dump, as a list
 abbrev dumped_words : Memory → List ℕ
@@ -195,3 +195,26 @@ finished old told bytes t r view none standing answer =
     by_answer : (q : Result Memory DumpFault) → MatchResult q (λ w. IsDump bytes w) (λ fault. IsMissing bytes fault) → IsFinished (Reading bytes) q
     by_answer (Ok w) h = h
     by_answer (Err fault) h = h
+
+-- the only fault of what is written is want of memory
+unfaulted : (m : Memory) (fault : DumpFault) → IsInGrammar m → IsFault (dump_bytes m) fault → fault ≡ NoMemory
+unfaulted m (Page fault) g h =
+    let within : h.word < 2 + PART_WORDS * length m = let low = h.within in omega (arith, low, total_is m g) in
+    let wrong : true ≡ false = sym (all_allowed m g h.word within) ∙ h.refused in
+    absurd (cc)
+unfaulted m (Trailing offset) g h = let past = h.past in let whole = (dump_tells m g).whole in absurd (omega arith)
+unfaulted m NoMemory g h = refl
+
+pub front_unfaulted : (m : Memory) (front rest : List ℕ) (fault : DumpFault) → IsInGrammar m → front ++ rest ≡ dump_bytes m → IsFault front fault → fault ≡ NoMemory
+front_unfaulted m front rest fault g e h = unfaulted m fault g (subst (λ (xs : List ℕ). IsFault xs fault) e (fault_stays front rest fault h))
+
+-- no piece of what is written is refused
+pub fed_back : (m : Memory) (old new : Progress) (piece rest : List ℕ) (r : Result (Unit {0}) DumpFault) → IsFed old piece r new
+    → IsInGrammar m → IsFrontOf old piece rest (dump_bytes m) → IfErr r (λ fault. fault ≡ NoMemory)
+fed_back m (Reading bytes) new piece rest (Ok x) fed g e = tt
+fed_back m (Reading bytes) new piece rest (Err fault) fed g e = front_unfaulted m (bytes ++ piece) rest fault g e fed.1
+fed_back m (Faulted told) new piece rest r fed g e = absurd e
+
+-- what is written tells its words, where they are in the grammar
+pub bytes_tell : (m : Memory) (bytes : List ℕ) → bytes ≡ dump_bytes m → IsInGrammar m → IsDump bytes m
+bytes_tell m bytes e g = subst (λ (xs : List ℕ). IsDump xs m) (sym e) (dump_tells m g)

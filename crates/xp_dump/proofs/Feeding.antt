@@ -1,22 +1,42 @@
 -- The fault that a piece shows, whichever of its bytes shows it.
-use Rattle.std.proofs.Common.{◌≡◌, ℕ, ◌+◌, ◌<◌, List, [], ◌∷◌, ◌++◌, length, get_or, take, drop, refl, ap, sym, ◌∙◌, subst}
+use Rattle.std.proofs.Common.{◌≡◌, ℕ, ◌+◌, ◌-◌, ◌<◌, arith, List, [], ◌∷◌, ◌++◌, length, get_or, take, drop, refl, ap, sym, ◌∙◌, subst}
 use Rattle.std.specs.Prelude.{Option, None, Err}
+use Rattle.std.proofs.Math.Seq.{take-add}
 use Rattle.std.proofs.lemmas.List.{append_assoc, take_more, take-append-drop}
 use Rattle.xp_dump.specs.declared.fault.DumpFault.{DumpFault}
+use Rattle.xp_dump.specs.declared.tape.Tape.{Tape}
 use Rattle.xp_dump.specs.Grammar.{IsFault}
 use Rattle.xp_dump.specs.Progress.{Progress, Reading, Faulted, progress_of, IsFed}
+use Rattle.xp_dump.specs.Standing.{IsStanding}
+use Rattle.xp_dump.specs.Tapes.{IsTape, IsRead}
 use Rattle.xp_dump.proofs.Same.{fault_stays}
 
-all_bytes : (bytes piece : List ℕ) (i : ℕ) → i < length piece → ((bytes ++ take i piece) ++ get_or piece i 0 ∷ []) ++ drop (i + 1) piece ≡ bytes ++ piece
-all_bytes bytes piece i low =
-    let one : take (i + 1) piece ≡ take i piece ++ get_or piece i 0 ∷ [] = take_more piece i 0 low in
-    ap (λ (xs : List ℕ). xs ++ drop (i + 1) piece) (append_assoc bytes (take i piece) (get_or piece i 0 ∷ []) ∙ ap (λ (xs : List ℕ). bytes ++ xs) (sym one))
-    ∙ append_assoc bytes (take (i + 1) piece) (drop (i + 1) piece) ∙ ap (λ (xs : List ℕ). bytes ++ xs) (take-append-drop (i + 1) piece)
+-- the next bytes of a piece stand behind those before them
+next_bytes : (bytes piece more : List ℕ) (at end : ℕ) → take end piece ≡ take at piece ++ more → (bytes ++ take at piece) ++ more ≡ bytes ++ take end piece
+next_bytes bytes piece more at end e = append_assoc bytes (take at piece) more ∙ ap (λ (xs : List ℕ). bytes ++ xs) (sym e)
 
-pub piece_fault : (bytes piece read : List ℕ) (i : ℕ) (fault : DumpFault) → i < length piece → read ≡ bytes ++ take i piece → IsFault (read ++ get_or piece i 0 ∷ []) fault → IsFault (bytes ++ piece) fault
-piece_fault bytes piece read i fault low e h =
-    subst (λ (xs : List ℕ). IsFault xs fault) (all_bytes bytes piece i low)
-    (fault_stays ((bytes ++ take i piece) ++ get_or piece i 0 ∷ []) (drop (i + 1) piece) fault (subst (λ (xs : List ℕ). IsFault (xs ++ get_or piece i 0 ∷ []) fault) e h))
+pub read_on : (bytes piece more : List ℕ) (at end : ℕ) (t : Tape) → take end piece ≡ take at piece ++ more → IsRead ((bytes ++ take at piece) ++ more) t → IsRead (bytes ++ take end piece) t
+read_on bytes piece more at end t e h = subst (λ (xs : List ℕ). IsRead xs t) (next_bytes bytes piece more at end e) h
+
+pub piece_fault : (bytes piece more : List ℕ) (at end : ℕ) (fault : DumpFault) → take end piece ≡ take at piece ++ more → IsFault ((bytes ++ take at piece) ++ more) fault → IsFault (bytes ++ piece) fault
+piece_fault bytes piece more at end fault e h =
+    let all : ((bytes ++ take at piece) ++ more) ++ drop end piece ≡ bytes ++ piece =
+    ap (λ (xs : List ℕ). xs ++ drop end piece) (next_bytes bytes piece more at end e) ∙ append_assoc bytes (take end piece) (drop end piece)
+    ∙ ap (λ (xs : List ℕ). bytes ++ xs) (take-append-drop end piece) in
+    subst (λ (xs : List ℕ). IsFault xs fault) all (fault_stays ((bytes ++ take at piece) ++ more) (drop end piece) fault h)
+
+-- eight bytes of a piece, and one of them, stand behind those before
+pub eight_more : (piece : List ℕ) (at : ℕ) → take (at + 8) piece ≡ take at piece ++ take (at + 8 - at) (drop at piece)
+eight_more piece at =
+    let e : at + 8 - at ≡ 8 = omega arith in
+    take-add at 8 piece ∙ ap (λ (n : ℕ). take at piece ++ take n (drop at piece)) (sym e)
+
+pub one_more : (piece : List ℕ) (at : ℕ) → at < length piece → take (at + 1) piece ≡ take at piece ++ get_or piece at 0 ∷ []
+one_more piece at low = take_more piece at 0 low
+
+-- without a fault the tape is that of the bytes that came
+pub standing : (told : Option DumpFault) (bytes : List ℕ) (t : Tape) → told ≡ None → IsStanding told bytes t → IsTape t × IsRead bytes t
+standing told bytes t none h = subst (λ (x : Option DumpFault). IsStanding x bytes t) none h
 
 -- a reader without a fault is faulted by it
 pub faulted : (old : Progress) (told : Option DumpFault) (bytes piece : List ℕ) (fault : DumpFault) → progress_of told bytes ≡ old → told ≡ None → IsFault (bytes ++ piece) fault → IsFed old piece (Err fault) (Faulted fault)

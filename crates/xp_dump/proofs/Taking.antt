@@ -1,6 +1,6 @@
--- What one more byte makes of a tape.
+-- What one more byte, or the bytes of one more word, make of a tape.
 use Rattle.std.proofs.Common.{◌≡◌, ◌≢◌, ℕ, zero, suc, ◌+◌, ◌*◌, ◌<◌, ◌≤◌, true, false, List, [], ◌∷◌, ◌++◌, length, set, refl, ap, sym, ◌∙◌, subst, arith, inl, inr}
-use Rattle.std.specs.Prelude.{slice_index, Result, Ok, Err, MatchResult}
+use Rattle.std.specs.Prelude.{slice_index, Option, None, MatchOption, Result, Ok, Err, MatchResult}
 use Rattle.std.proofs.lemmas.Bool.{cases_lt}
 use Rattle.std.proofs.lemmas.Bool.Decides.{nat_tests}
 use Rattle.std.proofs.lemmas.List.{length-append, get_or_append_left, get_or-append-add, get_or-set_same, get_or-set_other}
@@ -17,7 +17,7 @@ use Rattle.xp_dump.specs.declared.tape.Tape.{Tape}
 use Rattle.xp_dump.specs.Grammar.{Numbered, total, AreAllowed, IsPast, IsFault}
 use Rattle.xp_dump.specs.Parts.{taken_in}
 use Rattle.xp_dump.specs.Stages.{Follows, Steps, IsRefusedAt, taken, is_whole}
-use Rattle.xp_dump.specs.Tapes.{IsRead}
+use Rattle.xp_dump.specs.Tapes.{IsRead, IsTaken}
 use Rattle.xp_dump.proofs.Same.{AreSame, words_same, follows_same, total_same, all_same}
 
 -- the words that came are allowed
@@ -86,31 +86,39 @@ unfolding word_in
 whole_word pending bytes n h = little_equal 0 (8 * n) 8 pending bytes (λ k low. let e : 0 + k ≡ k = omega arith in ap (slice_index pending) e ∙ h k low)
 
 -- the words that came stay the same
-came : (bytes : List ℕ) (b n filled : ℕ) → length bytes ≡ 8 * n + filled → AreSame (word_in bytes) (word_in (bytes ++ b ∷ [])) n
-came bytes b n filled e = words_same bytes (b ∷ []) n (omega arith)
+came : (bytes more : List ℕ) (n filled : ℕ) → length bytes ≡ 8 * n + filled
+    → AreSame (word_in bytes) (word_in (bytes ++ more)) n
+came bytes more n filled e = words_same bytes more n (omega arith)
 
-pub read_past : (bytes : List ℕ) (t : Tape) (b offset : ℕ) → IsRead bytes t → is_whole t.stage ≡ true → offset ≡ 8 * taken t.stage → IsPast (bytes ++ b ∷ []) offset
-read_past bytes t b offset r whole e =
+pub read_past : (bytes more : List ℕ) (t : Tape) (offset : ℕ) → IsRead bytes t → is_whole t.stage ≡ true → 0 < length more
+    → offset ≡ 8 * taken t.stage → IsPast (bytes ++ more) offset
+read_past bytes more t offset r whole some e =
     let f : Numbered = word_in bytes in
-    let g : Numbered = word_in (bytes ++ b ∷ []) in
+    let g : Numbered = word_in (bytes ++ more) in
     let all = whole_total f t.stage r.follows whole in
     let size = r.size in
-    let same = came bytes b (taken t.stage) t.filled r.size in
+    let same = came bytes more (taken t.stage) t.filled r.size in
     let two : 2 ≤ taken t.stage = omega arith in
     let here = all ∙ total_same f g (λ k low. same k (omega arith)) in
     record {
       before = subst (AreAllowed g) here (all_same f g (taken t.stage) same (follows_allowed f t.stage r.follows));
-      past = subst (λ (n : ℕ). 8 * n < length (bytes ++ b ∷ [])) here (omega (arith, length-append bytes (b ∷ [])));
+      past = subst (λ (n : ℕ). 8 * n < length (bytes ++ more)) here (omega (arith, length-append bytes more));
       is = e ∙ ap (λ (n : ℕ). 8 * n) here;
     }
 
-pub read_more : (bytes : List ℕ) (t : Tape) (b : ℕ) → length t.pending ≡ 8 → IsRead bytes t → is_whole t.stage ≡ false → t.filled + 1 < 8
-    → IsRead (bytes ++ b ∷ []) (record { pending = set t.pending t.filled b; filled = t.filled + 1; stage = t.stage })
+-- any byte behind a whole dump is a fault
+pub taken_past : (bytes more : List ℕ) (t new : Tape) (fault : DumpFault) → IsRead bytes t → 0 < length more
+    → (is_whole t.stage ≡ true) × (fault ≡ Trailing (8 * taken t.stage)) → IsTaken bytes more (Err fault) new
+taken_past bytes more t new fault r some told =
+    subst (IsFault (bytes ++ more)) (sym told.1) (read_past bytes more t (8 * taken t.stage) r told.0 some refl)
+
+pub read_more : (bytes : List ℕ) (t : Tape) (b : ℕ) → length t.pending ≡ 8 → IsRead bytes t → is_whole t.stage ≡ false
+    → t.filled + 1 < 8 → IsRead (bytes ++ b ∷ []) (record { pending = set t.pending t.filled b; filled = t.filled + 1; stage = t.stage })
 read_more bytes t b room r going low =
     let f : Numbered = word_in bytes in
     let g : Numbered = word_in (bytes ++ b ∷ []) in
     let size = r.size in
-    let same = came bytes b (taken t.stage) t.filled r.size in
+    let same = came bytes (b ∷ []) (taken t.stage) t.filled r.size in
     let follows = follows_same f g t.stage same r.follows in
     let more = not_whole g t.stage follows going in
     record {
@@ -120,29 +128,68 @@ read_more bytes t b room r going low =
       within = omega (arith, length-append bytes (b ∷ []));
     }
 
-pub read_word : (bytes : List ℕ) (t : Tape) (b w : ℕ) (new : Stage) (r : Result (Unit {0}) DumpFault) → length t.pending ≡ 8 → IsRead bytes t → is_whole t.stage ≡ false → t.filled + 1 ≡ 8
-    → w ≡ little_from 0 8 (set t.pending t.filled b)
-    → ((f : Numbered) → Follows f t.stage → f (taken t.stage) ≡ w → MatchResult r (λ _. Steps f t.stage new) (λ fault. IsRefusedAt f (taken t.stage) fault))
-    → MatchResult r (λ _. IsRead (bytes ++ b ∷ []) (record { pending = set t.pending t.filled b; filled = 0; stage = new })) (λ fault. IsFault (bytes ++ b ∷ []) fault)
-read_word bytes t b w new r room read going last word step =
+-- what the next word, once it is whole, may be answered
+abbrev IsPut : ℕ → Tape → Stage → Result (Unit {0}) DumpFault → Type 0
+IsPut w t new r =
+    (f : Numbered) → Follows f t.stage → f (taken t.stage) ≡ w
+    → MatchResult r (λ _. Steps f t.stage new) (λ fault. IsRefusedAt f (taken t.stage) fault)
+
+-- the next word is whole with these bytes
+next_word : (bytes more pending : List ℕ) (t : Tape) (filled w : ℕ) (new : Stage) (r : Result (Unit {0}) DumpFault) → IsRead bytes t
+    → is_whole t.stage ≡ false → filled ≡ 0 → length (bytes ++ more) ≡ 8 * (taken t.stage + 1)
+    → word_in (bytes ++ more) (taken t.stage) ≡ w → IsPut w t new r
+    → IsTaken bytes more r (record { pending = pending; filled = filled; stage = new })
+next_word bytes more pending t filled w new r read going none long here step =
     let f : Numbered = word_in bytes in
-    let g : Numbered = word_in (bytes ++ b ∷ []) in
-    let size = read.size in
-    let same = came bytes b (taken t.stage) t.filled read.size in
+    let g : Numbered = word_in (bytes ++ more) in
+    let same = came bytes more (taken t.stage) t.filled read.size in
     let follows = follows_same f g t.stage same read.follows in
-    let more = not_whole g t.stage follows going in
+    let within = not_whole g t.stage follows going in
+    answer r (step g follows here) within follows
+  where
+    answer : (q : Result (Unit {0}) DumpFault)
+        → MatchResult q (λ _. Steps (word_in (bytes ++ more)) t.stage new) (λ fault. IsRefusedAt (word_in (bytes ++ more)) (taken t.stage) fault)
+        → taken t.stage < total (word_in (bytes ++ more)) → Follows (word_in (bytes ++ more)) t.stage
+        → IsTaken bytes more q (record { pending = pending; filled = filled; stage = new })
+    answer (Ok x) s within follows =
+        let next = s.more in
+        record { size = omega (arith, long); pending = λ i h. absurd (omega arith); follows = s.follows; within = omega (arith, long) }
+    answer (Err (Page fault)) s within follows =
+        record {
+          word = taken t.stage;
+          whole = omega (arith, long);
+          within = within;
+          before = follows_allowed (word_in (bytes ++ more)) t.stage follows;
+          refused = s.0;
+          is = s.1;
+        }
+    answer (Err (Trailing offset)) s within follows = absurd s
+    answer (Err Memory) s within follows = tt
+
+-- with one more byte
+pub read_word : (bytes : List ℕ) (t : Tape) (b w : ℕ) (new : Stage) (r : Result (Unit {0}) DumpFault) → length t.pending ≡ 8
+    → IsRead bytes t → is_whole t.stage ≡ false → t.filled + 1 ≡ 8 → w ≡ little_from 0 8 (set t.pending t.filled b) → IsPut w t new r
+    → IsTaken bytes (b ∷ []) r (record { pending = set t.pending t.filled b; filled = 0; stage = new })
+read_word bytes t b w new r room read going last word step =
+    let size = read.size in
     let long : length (bytes ++ b ∷ []) ≡ 8 * (taken t.stage + 1) = omega (arith, length-append bytes (b ∷ [])) in
     let eight = pending_more t.pending bytes (8 * taken t.stage) t.filled b (omega arith) size read.pending in
-    let here : g (taken t.stage) ≡ w = sym (word ∙ whole_word (set t.pending t.filled b) (bytes ++ b ∷ []) (taken t.stage) (λ i low. eight i (omega arith))) in
-    answer r (step g follows here) long more follows
-  where
-    answer : (q : Result (Unit {0}) DumpFault) → MatchResult q (λ _. Steps (word_in (bytes ++ b ∷ [])) t.stage new) (λ fault. IsRefusedAt (word_in (bytes ++ b ∷ [])) (taken t.stage) fault)
-        → length (bytes ++ b ∷ []) ≡ 8 * (taken t.stage + 1) → taken t.stage < total (word_in (bytes ++ b ∷ [])) → Follows (word_in (bytes ++ b ∷ [])) t.stage
-        → MatchResult q (λ _. IsRead (bytes ++ b ∷ []) (record { pending = set t.pending t.filled b; filled = 0; stage = new })) (λ fault. IsFault (bytes ++ b ∷ []) fault)
-    answer (Ok x) s long more follows =
-        let next = s.more in
-        record { size = omega arith; pending = λ i h. absurd (omega arith); follows = s.follows; within = omega arith }
-    answer (Err (Page fault)) s long more follows =
-        record { word = taken t.stage; whole = omega arith; within = more; before = follows_allowed (word_in (bytes ++ b ∷ [])) t.stage follows; refused = s.0; is = s.1 }
-    answer (Err (Trailing offset)) s long more follows = absurd s
-    answer (Err Memory) s long more follows = tt
+    let whole = whole_word (set t.pending t.filled b) (bytes ++ b ∷ []) (taken t.stage) (λ i low. eight i (omega arith)) in
+    next_word bytes (b ∷ []) (set t.pending t.filled b) t 0 w new r read going refl long (sym (word ∙ whole)) step
+
+-- with all its eight bytes
+pub read_eight : (bytes more : List ℕ) (t : Tape) (w : ℕ) (new : Stage) (r : Result (Unit {0}) DumpFault) → length more ≡ 8 → t.filled ≡ 0
+    → IsRead bytes t → is_whole t.stage ≡ false → w ≡ little_from 0 8 more → IsPut w t new r
+    → IsTaken bytes more r (record { pending = t.pending; filled = t.filled; stage = new })
+read_eight bytes more t w new r eight none read going word step =
+    let size = read.size in
+    let long : length (bytes ++ more) ≡ 8 * (taken t.stage + 1) = omega (arith, length-append bytes more) in
+    let at : length bytes ≡ 8 * taken t.stage = omega (arith, size, none) in
+    let same : (i : ℕ) → i < 8 → slice_index more i ≡ slice_index (bytes ++ more) (8 * taken t.stage + i) =
+    λ i low. sym (get_or-append-add bytes more i 0) ∙ ap (λ (n : ℕ). slice_index (bytes ++ more) (n + i)) at in
+    next_word bytes more t.pending t t.filled w new r read going none long (sym (word ∙ whole_word more (bytes ++ more) (taken t.stage) same)) step
+
+-- where no byte is a fault by itself, not all words came
+pub still_going : (fault : Option DumpFault) (t : Tape) → MatchOption fault (is_whole t.stage ≡ false) (λ x. (is_whole t.stage ≡ true) × (x ≡ Trailing (8 * taken t.stage))) → fault ≡ None
+    → is_whole t.stage ≡ false
+still_going fault t h none = subst (λ (x : Option DumpFault). MatchOption x (is_whole t.stage ≡ false) (λ y. (is_whole t.stage ≡ true) × (y ≡ Trailing (8 * taken t.stage)))) none h

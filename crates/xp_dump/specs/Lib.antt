@@ -4,3 +4,4 @@ pub mod Progress
 pub mod Stages
 pub mod Standing
 pub mod Tapes
+pub mod Texts

@@ -13,6 +13,11 @@ abbrev pub progress_of : Option DumpFault → List ℕ → Progress
 progress_of None bytes = Reading bytes
 progress_of (Some fault) bytes = Faulted fault
 
+-- what came without a fault, this piece, and the rest behind it are these bytes
+abbrev pub IsFrontOf : Progress → List ℕ → List ℕ → List ℕ → Type 0
+IsFrontOf (Reading before) piece rest bytes = (before ++ piece) ++ rest ≡ bytes
+IsFrontOf (Faulted fault) piece rest bytes = ⊥
+
 -- the answer to a piece, and the progress after it
 abbrev pub IsFed : Progress → List ℕ → Result (Unit {0}) DumpFault → Progress → Type 0
 IsFed (Faulted told) piece answer new = (answer ≡ Err told) × (new ≡ Faulted told)

@@ -1,8 +1,9 @@
 // A reader of dumps, which takes the bytes in pieces.
-ghost use Rattle.std.specs.Prelude.{◌≡◌, [], IfOk, Ok};
+ghost use Rattle.std.specs.Prelude.{◌≡◌, ◌++◌, ℕ, List, [], IfOk, IfErr, Ok};
 ghost use Rattle.xp_base.specs.Memory.{Memory};
+ghost use Rattle.xp_dump.specs.declared.fault.DumpFault.TheVariants.{Memory as NoMemory};
 ghost use Rattle.xp_dump.specs.Grammar.{IsInGrammar, dump_bytes};
-ghost use Rattle.xp_dump.specs.Progress.{IsFed, IsFinished, Reading};
+ghost use Rattle.xp_dump.specs.Progress.{IsFed, IsFinished, IsFrontOf, Reading};
 
 use crate::fault::DumpFault;
 use crate::tape::Tape;
@@ -11,7 +12,8 @@ use std::marker::Model;
 use xp_base::words::Words;
 use xp_ghost_list::GhostList;
 
-/// Reads a dump of either layout. Contracts see the bytes that came, or the first fault, after which it keeps nothing else.
+/// Reads a dump of either layout. Contracts see the bytes that came, or the first fault, after which
+/// it keeps nothing else.
 #[derive(Drop)]
 pub struct Reader {
     alloc: Global,
@@ -45,25 +47,29 @@ impl Reader {
         })
     }
 
-    /// Takes the next bytes, or tells the first fault of all bytes that came. After a fault it tells that fault again.
+    /// Takes the next bytes, or tells the first fault of all bytes that came. After a fault it tells
+    /// that fault again.
     pub fn feed(&mut self, piece: &[u8]) -> Result<(), DumpFault>
-        ensures { IsFed self.old piece.now result self.new }
+        ensures fed { IsFed self.old piece.now result self.new }
+        // Of what `dump` wrote no piece is refused; only want of memory may come.
+        ensures dumped { (m : Memory) (rest : List ℕ) → IsInGrammar m
+            → IsFrontOf self.old piece.now rest (dump_bytes m)
+            → IfErr result (λ fault. fault ≡ NoMemory) }
     {
         if let Some(fault) = self.fault {
             return Err(fault);
         }
-        for byte in piece {
-            self.read.push(byte);
-            if let Err(fault) = self.tape.take(self.alloc, *byte) {
-                self.fault = Some(fault);
-                self.tape = Tape::new();
-                return Err(fault);
-            }
+        note(&mut self.read, piece);
+        if let Err(fault) = self.tape.feed(self.alloc, piece) {
+            self.fault = Some(fault);
+            self.tape = Tape::new();
+            return Err(fault);
         }
         Ok(())
     }
 
-    /// The words of the dump, in the layout of memory; else the fault that was told, or that bytes are missing.
+    /// The words of the dump, in the layout of memory; else the fault that was told, or that bytes
+    /// are missing.
     pub fn finish(self) -> Result<Words, DumpFault>
         ensures answer { IsFinished self result }
         // What `dump` wrote is given back, word for word.
@@ -74,5 +80,14 @@ impl Reader {
             Some(fault) => Err(fault),
             None => tape.finish(),
         }
+    }
+}
+
+// Keeps the bytes of a piece for the contracts.
+fn note(read: &mut GhostList<u8>, piece: &[u8])
+    ensures { read.new ≡ read.old ++ piece.now }
+{
+    for byte in piece {
+        read.push(byte);
     }
 }

@@ -1,7 +1,9 @@
 // Bytes as they come in, gathered to words.
-ghost use Rattle.std.specs.Prelude.{◌≡◌, ℕ, List, [], ◌∷◌, ◌++◌, OnOk, MatchResult};
-ghost use Rattle.xp_dump.specs.Grammar.{IsFault, IsDump, IsMissing};
-ghost use Rattle.xp_dump.specs.Tapes.{IsTape, IsRead};
+ghost use Rattle.std.specs.Prelude.{◌≡◌, ℕ, List, [], ◌∷◌, ◌+◌, ◌*◌, ◌++◌, length, false, true, OnOk, MatchOption, MatchResult};
+ghost use Rattle.xp_dump.specs.declared.fault.DumpFault.TheVariants.{Trailing};
+ghost use Rattle.xp_dump.specs.Grammar.{IsDump, IsMissing};
+ghost use Rattle.xp_dump.specs.Stages.{is_whole, taken};
+ghost use Rattle.xp_dump.specs.Tapes.{IsTape, IsRead, IsTaken};
 
 use crate::fault::DumpFault;
 use crate::parts::Parts;
@@ -33,16 +35,62 @@ impl Tape {
         }
     }
 
-    /// Takes the next byte, or tells the first fault of the bytes with it.
-    pub fn take(&mut self, alloc: Global, byte: u8) -> Result<(), DumpFault>
+    /// Takes the next bytes, or tells the first fault of the bytes with them.
+    pub fn feed(&mut self, alloc: Global, piece: &[u8]) -> Result<(), DumpFault>
         requires { IsTape self.old }
         ensures tape { OnOk result (IsTape self.new) }
-        ensures step { (bytes : List ℕ) → IsRead bytes self.old → MatchResult result (λ _. IsRead (bytes ++ byte ∷ []) self.new) (λ fault. IsFault (bytes ++ byte ∷ []) fault) }
+        ensures step { (bytes : List ℕ) → IsRead bytes self.old → IsTaken bytes piece.now result self.new }
+    {
+        let mut at = 0;
+        while at < piece.len() {
+            if self.filled == 0 && WORD_BYTES <= piece.len() - at {
+                let end = at + WORD_BYTES;
+                self.take_word(alloc, &piece[at..end])?;
+                at = end;
+            } else {
+                self.take_byte(alloc, piece[at])?;
+                at += 1;
+            }
+        }
+        Ok(())
+    }
+
+    // The fault of the next byte, whichever it is: the dump is whole.
+    fn fault_past(&self) -> Option<DumpFault>
+        requires { IsTape self.now }
+        ensures { MatchOption result (is_whole self.now.stage ≡ false) (λ fault. (is_whole self.now.stage ≡ true) × (fault ≡ Trailing (8 * taken self.now.stage))) }
     {
         if self.stage.is_whole() {
-            return Err(DumpFault::Trailing {
+            Some(DumpFault::Trailing {
                 offset: self.stage.offset(),
-            });
+            })
+        } else {
+            None
+        }
+    }
+
+    // Takes the bytes of the next word, none of which came before.
+    fn take_word(&mut self, alloc: Global, bytes: &[u8]) -> Result<(), DumpFault>
+        requires tape { IsTape self.old }
+        requires none { self.old.filled ≡ 0 }
+        requires whole { length bytes.now ≡ WORD_BYTES }
+        ensures tape { OnOk result (IsTape self.new) }
+        ensures step { (came : List ℕ) → IsRead came self.old → IsTaken came bytes.now result self.new }
+    {
+        if let Some(fault) = self.fault_past() {
+            return Err(fault);
+        }
+        let word = LittleEndian::read_u64(bytes);
+        self.stage.put(alloc, word)
+    }
+
+    fn take_byte(&mut self, alloc: Global, byte: u8) -> Result<(), DumpFault>
+        requires { IsTape self.old }
+        ensures tape { OnOk result (IsTape self.new) }
+        ensures step { (came : List ℕ) → IsRead came self.old → IsTaken came (byte ∷ []) result self.new }
+    {
+        if let Some(fault) = self.fault_past() {
+            return Err(fault);
         }
         self.pending[self.filled as usize] = byte;
         self.filled += 1;

@@ -1,7 +1,7 @@
 // The bytes of a dump.
 ghost use Rattle.std.specs.Prelude.{◌≡◌, ◌++◌, IfOk, OnOk};
 ghost use Rattle.xp_page.specs.Reading.{bytes_of_words};
-ghost use Rattle.xp_dump.specs.Grammar.{dump_bytes};
+ghost use Rattle.xp_dump.specs.Grammar.{IsDump, IsInGrammar, dump_bytes};
 
 use std::alloc::{AllocError, Global};
 use xp_base::words::Words;
@@ -23,9 +23,12 @@ fn append(out: &mut Vec<u8>, words: &[u64]) -> Result<(), AllocError>
     Ok(())
 }
 
-/// The dump of the words of some partitions: a header, the number of partitions, and the words of each.
+/// The dump of the words of some partitions: a header, the number of partitions, and the words of
+/// each.
 pub fn dump(alloc: Global, words: &Words) -> Result<Vec<u8>, AllocError>
-    ensures { IfOk result (λ bytes. bytes.items ≡ dump_bytes words.now) }
+    ensures bytes { IfOk result (λ bytes. bytes.items ≡ dump_bytes words.now) }
+    // Words that the grammar allows are told by their dump.
+    ensures told { IfOk result (λ bytes. IsInGrammar words.now → IsDump bytes.items words.now) }
 {
     let flat = words.flat();
     let mut out = Vec::with_capacity(alloc, WORD_BYTES * (flat.len() + 2))?;
