@@ -1,7 +1,8 @@
 // The words of a line, one after the other.
-ghost use Rattle.std.specs.Prelude.{◌≡◌, ◌≤◌, ◌<◌, ◌*◌, ◌^◌, nat_le, IfOk};
+ghost use Rattle.std.specs.Prelude.{◌≡◌, ◌≤◌, ◌<◌, ◌*◌, ◌^◌, nat_le, false, Ok, Err, IfOk, MatchOption};
+ghost use Rattle.xp_text.specs.Payloads.{payload_of, at_most};
 ghost use Rattle.xp_base.specs.Entries.{lines};
-ghost use Rattle.xp_forms.specs.Forms.{Gives, next_word, next_field, next_kind, next_bytes, kind_of, end_of, refused, peeked, is_ascii};
+ghost use Rattle.xp_forms.specs.Forms.{Gives, next_word, next_field, next_kind, next_bytes, sized, kind_of, end_of, refused, peeked, is_ascii};
 ghost use Rattle.xp_forms.specs.Forms.Slot.{Number, Interval, Part, Other, AnyChannel, MessageChannel, Limit};
 
 use crate::fault::{LineCause, LineError, WordFault};
@@ -13,6 +14,7 @@ use xp_base::step::CopyKind;
 use xp_script::count::Count;
 use xp_script::limits::DEVICE_CHANNEL;
 use xp_script::payload::Payload;
+use xp_text::lengths::payload_len;
 use xp_text::line::Line;
 use xp_text::numbers::{Digits, read_digits};
 use xp_text::payloads::payload;
@@ -205,7 +207,8 @@ fn kind_of(word: &[u8]) -> Result<CopyKind, LineCause>
     }
 }
 
-/// A payload of `least` to `most` bytes. Where it isn't to be kept, it has none.
+/// A payload of `least` to `most` bytes. Where it isn't to be kept it is only measured, and has no
+/// bytes.
 #[tactic(auto, unfolding(crate::specs::Forms::next_bytes))]
 pub fn bytes(
     alloc: Global,
@@ -217,13 +220,27 @@ pub fn bytes(
     ensures { Gives (λ b. (b, line.new)) result (next_bytes keep least most line.old) }
 {
     let word = word(line)?;
+    if !keep {
+        return match measured(alloc, word, least, most) {
+            Some(payload) => Ok(payload),
+            None => Err(at_last(line, LineCause::Payload)),
+        };
+    }
     match payload(alloc, word, most)? {
-        Some(bytes) if bytes.len() >= least => Ok(Payload::new(if keep {
-            bytes
-        } else {
-            Vec::new(alloc)
-        })),
+        Some(bytes) if bytes.len() >= least => Ok(Payload::new(bytes)),
         _ => Err(at_last(line, LineCause::Payload)),
+    }
+}
+
+/// A payload without its bytes, where the word spells one of `least` to `most` bytes.
+fn measured(alloc: Global, word: &[u8], least: usize, most: usize) -> Option<Payload>
+    ensures { MatchOption result
+        (sized false least (at_most most (payload_of word.now)) ≡ Err LineCause.Payload)
+        (λ payload. sized false least (at_most most (payload_of word.now)) ≡ Ok payload) }
+{
+    match payload_len(word, most) {
+        Some(len) if len >= least => Some(Payload::new(Vec::new(alloc))),
+        _ => None,
     }
 }
 

@@ -3,3 +3,4 @@ pub mod WordLemmas
 pub mod PayloadLemmas
 pub mod DigitLemmas
 pub mod ByteLemmas
+pub mod LengthLemmas

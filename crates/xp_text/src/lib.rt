@@ -2,6 +2,7 @@
 //! payloads that words spell.
 #![tactic(auto)]
 
+pub mod lengths;
 pub mod line;
 pub mod numbers;
 pub mod parts;

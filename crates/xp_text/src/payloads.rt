@@ -93,7 +93,7 @@ fn push_times(out: &mut Vec<u8>, times: u64, byte: u8) -> Result<(), AllocError>
 }
 
 /// The byte that two digits spell.
-fn one_byte(digits: &[u8]) -> Option<u8>
+pub fn one_byte(digits: &[u8]) -> Option<u8>
     ensures { result ≡ one_byte digits.now }
 {
     match <[u8; 1]>::from_hex(digits) {
