@@ -1,0 +1,3 @@
+pub mod BootInside
+pub mod Booting
+pub mod Looking
