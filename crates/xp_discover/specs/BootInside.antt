@@ -1,5 +1,5 @@
 -- What a boot keeps, seen as what it has done.
-use Rattle.std.specs.Prelude.{◌≡◌, ℕ, ◌≤◌, ◌<◌, Option, Some, None}
+use Rattle.std.specs.Prelude.{◌≡◌, ℕ, ◌≤◌, ◌<◌, Some}
 use Rattle.xp_base.specs.declared.layout.TheConstants.{PARTS}
 use Rattle.xp_discover.specs.declared.boot.Boot.TheInside.{Inside}
 use Rattle.xp_discover.specs.Booting.{Starting, LAST_STAMP}

@@ -110,17 +110,27 @@ impl Boot {
     // The first partner from this number on.
     fn partner_from(&self, number: u8) -> Option<PartId>
         requires { number ≤ self.now.count }
-        ensures { result ≡ (if nat_lt (partner_from self.now.own number) self.now.count then Some (partner_from self.now.own number) else None) }
+        ensures { result ≡ (if nat_lt (partner_from self.now.own number) self.now.count then Some
+            (partner_from self.now.own number) else None) }
     {
-        let next = if number == self.own.get() { number + 1 } else { number };
-        if next < self.count { PartId::new(next) } else { None }
+        let next = if number == self.own.get() {
+            number + 1
+        } else {
+            number
+        };
+        if next < self.count {
+            PartId::new(next)
+        } else {
+            None
+        }
     }
 
     /// The step that is wanted: one that the rules permit.
     pub fn next(&self) -> Option<Wanted>
         ensures value { result ≡ wanted_for self.now (boot_step self.now) }
         ensures none { result ≡ None ↔ self.now.over ≡ true }
-        ensures permitted { (s : ScenarioPart) (st : State) (m : BootStep) → IsBootOf self.now s st →
+        ensures permitted { (s : ScenarioPart) (st : State) (m : BootStep)
+            → IsBootOf self.now s st →
             boot_step self.now ≡ Some m →
             Can s st (rule_for m) × (result ≡ Some (wanted_of s st (rule_for m))) }
     {

@@ -2,9 +2,7 @@
 ghost use Rattle.std.specs.Prelude.{◌≡◌};
 ghost use Rattle.xp_discover.specs.Looking.{look_answer};
 
-use xp_base::layout::{
-    RECORDS_AT, SIGNATURE, VARIABLES_AT, VERSION_BASE, VERSION_END,
-};
+use xp_base::layout::{RECORDS_AT, SIGNATURE, VARIABLES_AT, VERSION_BASE, VERSION_END};
 
 /// What a whole look at a partner's page showed.
 #[derive(Clone, Copy)]
@@ -24,7 +22,8 @@ pub fn judge(words: [u64; 5]) -> LookAnswer
     ensures { result ≡ look_answer words }
 {
     let [signature, version, variables, records, stamp] = words;
-    let is_page = signature == SIGNATURE && variables == VARIABLES_AT as u64
+    let is_page = signature == SIGNATURE
+        && variables == VARIABLES_AT as u64
         && records == RECORDS_AT as u64;
     if !is_page || stamp == 0 || stamp > u32::MAX as u64 {
         LookAnswer::Absent

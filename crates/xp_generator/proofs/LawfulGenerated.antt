@@ -65,7 +65,7 @@ bytes_replicate zero b h i = lit< tt
 bytes_replicate (suc n) b h zero = h
 bytes_replicate (suc n) b h (suc i) = bytes_replicate n b h i
 
-payload_short : (n p k : ℕ) → length (payload_of n p k) ≤ 112
+payload_short : (n p k : ℕ) → length (payload_of n p k) ≤ LINE_BYTES
 payload_short n p k = let h = length-replicate ((n + 7 * k + 13 * p) % 113) ((n + k + 31 * p) % 256) in omega (arith, h)
 
 message : (count p q : ℕ) → IsEnd count p q 0 → IsMessageEnd count p q 0
@@ -121,7 +121,7 @@ opening_bytes next previous = go (eqb previous next)
     go true = refl
     go false = refl
 
-exchanges_bytes : (n p next previous k : ℕ) → sum_by command_bytes (exchanges n p next previous k) ≤ 112 * k
+exchanges_bytes : (n p next previous k : ℕ) → sum_by command_bytes (exchanges n p next previous k) ≤ LINE_BYTES * k
 exchanges_bytes n p next previous zero = lit≤ tt
 exchanges_bytes n p next previous (suc k) =
     let h = exchanges_bytes n p next previous k in

@@ -11,6 +11,8 @@ use Rattle.xp_protocol.specs.Linking.{joined_end}
 use Rattle.xp_meetings.proofs.Ties.{word_now, word_next, contact_by, opens, echoes}
 use Rattle.xp_meetings.proofs.Both.{Side, Both, both_turned}
 use Rattle.xp_meetings.proofs.Touch.{now, IsWaiting, Opens, Touch, touch, shut, word_back, session_back}
+use Rattle.xp_base.specs.declared.layout.TheConstants.{LINES}
+use Rattle.xp_base.specs.declared.body.TheConstants.{LINE_BYTES}
 use Rattle.xp_promises.proofs.Direction.{Out, In, NewOut, NewIn, new_kept}
 use Rattle.xp_promises.proofs.FlagEnds.{Kinds as Five, End as Control, no_kinds as no_five}
 use Rattle.xp_promises.proofs.FlagKept.{Sound, again}
@@ -206,9 +208,9 @@ fresh_way u v put entry get rs ss own their =
     let i = in_side (joined v u) in
     let out : ℕ → Out = λ k. out_of 0 entry (named u v k rs) s in
     let inn : ℕ → In = λ k. in_of 0 (named v u k ss) i in
-    let new_out : (k : ℕ) → NewOut 8 112 (out k) = λ k. record { entries = refl; size = refl; word = refl; put = refl; known = refl; accepted = own.accepted k; next = refl; stored = refl } in
-    let new_in : (k : ℕ) → NewIn 8 112 (inn k) = λ k. record { entries = refl; size = refl; word = refl; acked = their.acked k; stored = refl; front = refl; later = refl; count = refl; taken = their.taken k; cache = refl; pulled = refl; seen = refl; copied = refl } in
-    record { n = λ k. 8; limit = λ k. 112; out = out; inn = inn; kept = λ k. new_kept 8 112 (out k) (inn k) (omega arith) (omega arith) (omega arith) (new_out k) (new_in k); out_live = λ d. absurd (cc); in_live = λ d. absurd (cc); new = λ k d. (new_out k, new_in k); accepted = λ k. refl; taken = λ k. refl; acked = λ k. refl }
+    let new_out : (k : ℕ) → NewOut LINES LINE_BYTES (out k) = λ k. record { entries = refl; size = refl; word = refl; put = refl; known = refl; accepted = own.accepted k; next = refl; stored = refl } in
+    let new_in : (k : ℕ) → NewIn LINES LINE_BYTES (inn k) = λ k. record { entries = refl; size = refl; word = refl; acked = their.acked k; stored = refl; front = refl; later = refl; count = refl; taken = their.taken k; cache = refl; pulled = refl; seen = refl; copied = refl } in
+    record { n = λ k. LINES; limit = λ k. LINE_BYTES; out = out; inn = inn; kept = λ k. new_kept LINES LINE_BYTES (out k) (inn k) (omega arith) (omega arith) (omega arith) (new_out k) (new_in k); out_live = λ d. absurd (cc); in_live = λ d. absurd (cc); new = λ k d. (new_out k, new_in k); accepted = λ k. refl; taken = λ k. refl; acked = λ k. refl }
 
 fresh_mine : (u v : Session) (x : Data) (rs : List Recorded) → Below u v 0 (names rs) → Mine u v x rs (parts (joined u v))
 fresh_mine u v x rs unused = record {

@@ -7,6 +7,8 @@ mod ack;
 #[cfg(test)]
 mod channel;
 #[cfg(test)]
+mod partners;
+#[cfg(test)]
 mod pull;
 #[cfg(test)]
 mod ring;

@@ -1,0 +1,3 @@
+pub mod Stepping
+pub mod Missing
+pub mod Permitted

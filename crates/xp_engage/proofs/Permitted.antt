@@ -1,0 +1,105 @@
+-- A step that what is known of a partner permits is permitted to each partition that knows this.
+use Rattle.std.proofs.Common.{◌≡◌, ℕ, Bool, true, false, cond, refl, ap, sym, ◌∙◌}
+use Rattle.std.specs.Prelude.{◌||◌, is_some, Option, Some, None}
+use Rattle.xp_script.specs.declared.part.ScenarioPart.{ScenarioPart}
+use Rattle.xp_protocol.specs.declared.rule.PeerRule.{PeerRule}
+use Rattle.xp_protocol.specs.declared.rule.PeerRule.TheVariants.{AskActivation, TakeFlags, CloseArea, ZeroMagic, ClearOldBit, Prepare, OpenArea, SetEngagementBit, ReadRecord, StoreEcho, StoreSecond, ClearEngagementBit, LookAtPage, ClearDeactivationBit, TellPartner}
+use Rattle.xp_protocol.specs.declared.rule.Rule.{Rule}
+use Rattle.xp_protocol.specs.declared.rule.Rule.TheVariants.{Peer as ForPeer}
+use Rattle.xp_base.specs.declared.step.CopyMark.{CopyMark}
+use Rattle.xp_base.specs.Places.{index_of}
+use Rattle.xp_protocol.specs.Effects.{Copied, Row}
+use Rattle.xp_protocol.specs.Wanting.{mark_with, wanted_at}
+use Rattle.xp_protocol.specs.State.{State, Peer, Up, peer_of, idle_links}
+use Rattle.xp_protocol.specs.Peering.{Here, peer_can, peer_row, copies_go_on}
+use Rattle.xp_protocol.specs.Rules.{Can, here_of, mark_for, wanted_of, peer_life}
+use Rattle.xp_engage.specs.Partner.{Partner, alone, here, row_for, step_wanted, is_made, IsStateOf, unmarked, unnumbered}
+
+-- the copies that go on are none
+reading_none : (x : Partner) → copies_go_on (alone x) ≡ false → is_some x.engage.reading ≡ false
+unfolding idle_links
+reading_none x h = by (is_some x.engage.reading) h where
+  by : (b : Bool) → (b || false) ≡ false → b ≡ false
+  by true e = e
+  by false e = refl
+
+no_copies : (copying reading : Bool) → copying ≡ false → reading ≡ false → (copying || reading) ≡ false
+no_copies copying reading a b = rw (a, b) refl
+
+-- over plain variables: a partner of which this is known, and what a step reads besides
+record Knows (x : Partner) (turn : ℕ) (copying : Bool) (y : Here) (p : Peer) : Type 0 where
+  here : y ≡ record (here turn x) { read = y.read }
+  wanted : p.wanted ≡ x.wanted
+  look : p.look ≡ x.look
+  engage : p.engage ≡ x.engage
+  contact : p.contact ≡ x.contact
+  copies : copies_go_on p ≡ (copying || is_some x.engage.reading)
+
+peer_permitted :
+    (x : Partner) (turn : ℕ) (copying : Bool) (y : Here) (p : Peer) (m : PeerRule) → Knows x turn copying y p → peer_can (here turn x) (alone x) m → (m ≡ ClearEngagementBit → copying ≡ false) →
+    is_made m ≡ true → peer_life m ≡ Up → peer_can y p m
+peer_permitted x turn copying y p AskActivation h can k made up = rw (h.wanted, h.engage, h.look) can
+peer_permitted x turn copying y p TakeFlags h can k made up = absurd (cc)
+peer_permitted x turn copying y p CloseArea h can k made up = rw h.engage can
+peer_permitted x turn copying y p ZeroMagic h can k made up = absurd (cc)
+peer_permitted x turn copying y p ClearOldBit h can k made up = absurd (cc)
+peer_permitted x turn copying y p (Prepare word) h can k made up = rw h.engage can
+peer_permitted x turn copying y p OpenArea h can k made up = rw (h.here, h.engage, h.wanted) can
+peer_permitted x turn copying y p SetEngagementBit h can k made up = rw (h.here, h.engage, h.look) can
+peer_permitted x turn copying y p ReadRecord h can k made up = rw (h.engage, h.contact) can
+peer_permitted x turn copying y p StoreEcho h can k made up = rw h.engage can
+peer_permitted x turn copying y p StoreSecond h can k made up = rw h.engage can
+peer_permitted x turn copying y p ClearEngagementBit h can k made up =
+    let c : copies_go_on p ≡ false = h.copies ∙ no_copies copying (is_some x.engage.reading) (k refl) (reading_none x can.1) in
+    (rw h.engage can.0, c, rw h.engage can.2)
+peer_permitted x turn copying y p LookAtPage h can k made up = absurd (cc)
+peer_permitted x turn copying y p ClearDeactivationBit h can k made up = rw h.engage can
+peer_permitted x turn copying y p TellPartner h can k made up = rw h.engage can
+
+knows : (x : Partner) (turn : ℕ) (copying : Bool) (s : ScenarioPart) (st : State) → IsStateOf x turn copying s st → Knows x turn copying (here_of s st x.partner) (peer_of st x.partner)
+knows x turn copying s st h = record { here = h.here; wanted = h.wanted; look = h.look; engage = h.engage; contact = h.contact; copies = h.copies }
+
+pub can_now :
+    (x : Partner) (turn : ℕ) (copying : Bool) (s : ScenarioPart) (st : State) (m : PeerRule) → IsStateOf x turn copying s st → peer_can (here turn x) (alone x) m → (m ≡ ClearEngagementBit → copying ≡ false) →
+    is_made m ≡ true → peer_life m ≡ Up → Can s st (ForPeer x.partner m)
+can_now x turn copying s st m h can k made up = (h.life ∙ sym up, (record { low = h.partner; other = λ e. h.other (e ∙ h.part) }, peer_permitted x turn copying (here_of s st x.partner) (peer_of st x.partner) m (knows x turn copying s st h) can k made up))
+
+-- its word is the same
+row_known : (x : Partner) (stamp : ℕ) (p : Peer) (m : PeerRule) → p.engage ≡ x.engage → stamp ≡ x.stamp → is_made m ≡ true → peer_row x.own stamp x.partner p m ≡ peer_row x.own x.stamp x.partner (alone x) m
+row_known x stamp p AskActivation e t made = refl
+row_known x stamp p TakeFlags e t made = absurd (cc)
+row_known x stamp p CloseArea e t made = refl
+row_known x stamp p ZeroMagic e t made = refl
+row_known x stamp p ClearOldBit e t made = refl
+row_known x stamp p (Prepare y) e t made = rw (e, t) refl
+row_known x stamp p OpenArea e t made = refl
+row_known x stamp p SetEngagementBit e t made = refl
+row_known x stamp p ReadRecord e t made = rw e refl
+row_known x stamp p StoreEcho e t made = rw e refl
+row_known x stamp p StoreSecond e t made = refl
+row_known x stamp p ClearEngagementBit e t made = refl
+row_known x stamp p LookAtPage e t made = absurd (cc)
+row_known x stamp p ClearDeactivationBit e t made = refl
+row_known x stamp p TellPartner e t made = refl
+
+-- and so is the step that is wanted, but for the number of its copy
+unmarked_mark : (st : State) (r : Rule) (o : Option Copied) → mark_with 0 o ≡ unmarked (mark_for st r o)
+unmarked_mark st r None = refl
+unmarked_mark st r (Some x) = refl
+
+wanted_by : (own q : ℕ) (st : State) (r : Rule) (x y : Row) → y ≡ x → wanted_at own q x ≡ unnumbered (record { op = record { owner = cond y.own own q; index = index_of y.place; kind = y.kind }; mark = mark_for st r y.copy })
+wanted_by own q st r x y e = rw e (ap (λ (o : Option CopyMark). record { op = record { owner = cond x.own own q; index = index_of x.place; kind = x.kind }; mark = o }) (unmarked_mark st r x.copy))
+
+pub wanted_now :
+    (x : Partner) (turn : ℕ) (copying : Bool) (s : ScenarioPart) (st : State) (m : PeerRule) → IsStateOf x turn copying s st → is_made m ≡ true →
+    step_wanted x m ≡ unnumbered (wanted_of s st (ForPeer x.partner m))
+wanted_now x turn copying s st m h made =
+    let stamp : st.stamp ≡ x.stamp = ap (λ (y : Here). y.stamp) h.here in
+    rw h.part (wanted_by x.own x.partner st (ForPeer x.partner m) (row_for x m) (peer_row x.own st.stamp x.partner (peer_of st x.partner) m) (row_known x st.stamp (peer_of st x.partner) m h.engage stamp made))
+
+abbrev rule_in : PeerRule → Option PeerRule → PeerRule
+rule_in m None = m
+rule_in m (Some x) = x
+
+pub same_rule : (a b : PeerRule) → Some a ≡ Some b → a ≡ b
+same_rule a b e = ap (rule_in a) e
