@@ -1,8 +1,8 @@
 -- A partition boots once, and once more for each restart that is planned for it at most: each moment comes once.
-use Rattle.std.proofs.Common.{◌≡◌, ℕ, suc, ◌+◌, ◌<◌, ◌≤◌, Bool, true, false, ◌&&◌, ◌||◌, not, cond, eqb, ltb, List, [], ◌∷◌, length, refl, ap, sym, ◌∙◌, subst, arith, Option, Some, None}
+use Rattle.std.proofs.Common.{◌≡◌, ℕ, suc, ◌+◌, ◌≤◌, Bool, true, false, ◌&&◌, ◌||◌, not, cond, eqb, ltb, List, [], ◌∷◌, length, refl, ap, sym, ◌∙◌, subst, arith, Option, Some, None}
 use Rattle.std.specs.Prelude.{count_by}
 use Rattle.std.specs.List.{list_any}
-use Rattle.std.proofs.lemmas.Bool.{and_parts, eqb-true, ltb-true}
+use Rattle.std.proofs.lemmas.Bool.{and_parts, eqb-true}
 use Rattle.std.proofs.lemmas.Bool.Decides.{nat_tests}
 use Rattle.std.proofs.lemmas.List.Sums.{sum_by-cons}
 use Rattle.xp_base.specs.declared.step.Answer.{Answer}
@@ -23,10 +23,7 @@ use Rattle.xp_protocol.specs.State.{State, Clock, opened_state}
 use Rattle.xp_protocol.specs.Rules.{puts_after}
 use Rattle.xp_protocol.specs.Decode.{rule_of}
 use Rattle.xp_protocol.specs.Acts.{Aim, aimed, with_aim, after_act, after_acts}
-use Rattle.xp_protocol.specs.Runs.{start, after_ruled, after_step, after_turn, acted, moment, moment_by, turned, turn_counted, restart_comes, stop_comes, is_over, state_after}
-
-
-
+use Rattle.xp_protocol.specs.Runs.{start, after_ruled, after_step, after_turn, acted, moment, moment_by, turn_counted, restart_comes, stop_comes, is_over, state_after}
 
 abbrev one_if : Bool → ℕ
 one_if b = cond b 1 0

@@ -2,7 +2,7 @@
 use Rattle.std.proofs.Common.{◌≡◌, ℕ, ◌+◌, ◌*◌, ◌/◌, ◌%◌, ◌^◌, ◌<◌, ◌≤◌, true, List, [], length, get_or, refl, ap, sym, ◌∙◌, subst, arith, inl, inr, ◌⊎◌}
 use Rattle.std.proofs.lemmas.Bool.{cases_lt}
 use Rattle.std.proofs.lemmas.List.{get_or_past}
-use Rattle.xp_base.specs.declared.layout.TheConstants.{VERSION_AT, VARIABLES_AT, OPEN_WORDS, PART_WORDS, BUFFER_WORDS}
+use Rattle.xp_base.specs.declared.layout.TheConstants.{VERSION_AT, VARIABLES_AT, ACTIVATION, PART_WORDS, BUFFER_WORDS}
 use Rattle.xp_base.specs.Memory.{Memory, word_at}
 use Rattle.xp_base.specs.History.{Event}
 use Rattle.xp_base.specs.Places.{Place, Open, Record, Flag, Args, Counter, Entry, Pool, IsWithin, index_of}
@@ -61,7 +61,8 @@ module _ (s : Scenario) (law : IsLawful s) (m : Memory) (w : Words) (agrees : Ag
         most = omega (arith, count, most);
         sized = λ p l. agrees.shape.rows p (omega (arith, count, l));
         page = λ p n l h. allowed_at p (Open n) l (omega (arith, h)) refl;
-        variables = λ p n l k h. allowed_at p (Open n) l h refl;
+        beats = λ p n l k h. allowed_at p (Open n) l (omega (arith, h)) refl;
+        signals = λ p n l k h. allowed_at p (Open n) l h refl;
         records = λ p q f l lq lf. allowed_at p (Record q f) l (lq, lf) (omega arith);
         flags = λ p q l lq. allowed_at p (Flag q) l lq (omega arith);
         arguments = λ p q c f l lq lc lf. allowed_at p (Args q c f) l (lq, lc, lf) (omega arith);
@@ -73,10 +74,11 @@ module _ (s : Scenario) (law : IsLawful s) (m : Memory) (w : Words) (agrees : Ag
 -- of all kinds together
 module _ (m : Memory) (h : AreAllAllowed m) where
   each_field : (p : ℕ) (field : Field) → p < length m → IsField Newer field → IsAllowed m p field
-  each_field p (fields.Open n) l f = by (cases_lt n VARIABLES_AT) where
-    by : (n < VARIABLES_AT) ⊎ (VARIABLES_AT ≤ n) → IsAllowed m p (fields.Open n)
-    by (inl low) = h.page p n l low
-    by (inr high) = h.variables p n l high f
+  each_field p (fields.Open n) l f = by (cases_lt n VARIABLES_AT) (cases_lt n ACTIVATION) where
+    by : (n < VARIABLES_AT) ⊎ (VARIABLES_AT ≤ n) → (n < ACTIVATION) ⊎ (ACTIVATION ≤ n) → IsAllowed m p (fields.Open n)
+    by (inl low) k = h.page p n l low
+    by (inr high) (inl low) = h.beats p n l high low
+    by (inr high) (inr k) = h.signals p n l k f
   each_field p (fields.Record q f) l w = h.records p q f l w.0 w.1
   each_field p (fields.Flag q) l w = h.flags p q l w
   each_field p (fields.Args q c f) l w = h.arguments p q c f l w.0 w.1 w.2

@@ -1,5 +1,5 @@
 -- What an end knows of the words that are stored for it: its registration, the limit of its queue, the message that is being sent, and how many messages were put, taken and released. A law of one end, whatever changes it.
-use Rattle.std.proofs.Common.{◌≡◌, ℕ, zero, suc, ◌+◌, ◌-◌, ◌*◌, ◌<◌, ◌≤◌, Bool, true, false, not, ◌&&◌, cond, eqb, ltb, List, [], ◌∷◌, ◌++◌, length, length-append, set, refl, ap, sym, ◌∙◌, subst, arith, Option, Some, None}
+use Rattle.std.proofs.Common.{◌≡◌, ℕ, zero, suc, ◌+◌, ◌-◌, ◌*◌, ◌≤◌, Bool, true, false, not, ◌&&◌, cond, eqb, ltb, List, [], ◌∷◌, ◌++◌, length, length-append, set, refl, ap, sym, ◌∙◌, subst, arith, Option, Some, None}
 use Rattle.std.specs.Prelude.{is_some, IsSome}
 use Rattle.std.proofs.lemmas.Bool.Decides.{nat_tests}
 use Rattle.std.proofs.lemmas.List.{length-set}
@@ -8,8 +8,6 @@ use Rattle.xp_base.specs.declared.answer.SendAnswer.{SendAnswer}
 use Rattle.xp_base.specs.declared.answer.SendAnswer.TheVariants.{TooBig, NoSlot}
 use Rattle.xp_base.specs.declared.answer.DrainAnswer.{DrainAnswer}
 use Rattle.xp_base.specs.declared.answer.ReleaseAnswer.{ReleaseAnswer}
-use Rattle.xp_base.specs.declared.answer.TakeAnswer.{TakeAnswer}
-use Rattle.xp_base.specs.declared.answer.TakeAnswer.TheVariants.{Taken as TakenAnswer, Empty, Disconnecting, NotConnected}
 use Rattle.xp_base.specs.declared.answer.RegisterAnswer.TheVariants.{Ok as RegisterOk, Already}
 use Rattle.xp_base.specs.declared.answer.UnregisterAnswer.TheVariants.{Ok as UnregisterOk, NotRegistered}
 use Rattle.xp_base.specs.declared.link.Kind.{Kind}
@@ -37,14 +35,14 @@ use Rattle.xp_protocol.specs.declared.rule.PullRule.TheVariants.{ReadCounters, R
 use Rattle.xp_protocol.specs.declared.rule.LinkRule.{LinkRule}
 use Rattle.xp_protocol.specs.declared.rule.LinkRule.TheVariants.{Ring, Pull, Acknowledge, SetFlag, ZeroGet, ZeroPut, StoreArgument, ReadArgument}
 use Rattle.xp_protocol.specs.Parts.{IsRequestSize}
-use Rattle.xp_protocol.specs.Effects.{Effect, just, and_then, SendNote, Accepted, Sent, PullNote, Heard, TakeRefused, Note, BySend, ByPull, Began, Joined, Taken, Freed, Acked, Told, ToldOver, Over, Released, Drained, Registered, Withdrawn}
-use Rattle.xp_protocol.specs.Sending.{Send, Sending, is_bad_get, is_full, get_loaded, ring_effect, link_refusal}
-use Rattle.xp_protocol.specs.Pulling.{Pulling, SenderCounters, counters_pulled, is_bad_counter, is_bad_put, shown_empty, entry_pulled, run_copied, run_fault, run_now, words_each as pull_words, take_due, found_by, take_refusal}
+use Rattle.xp_protocol.specs.Effects.{Effect, just, and_then, Accepted, Sent, Heard, TakeRefused, Note, BySend, ByPull, Began, Joined, Taken, Freed, Acked, Told, ToldOver, Over, Released, Drained, Registered, Withdrawn}
+use Rattle.xp_protocol.specs.Sending.{Send, is_bad_get, is_full, get_loaded, ring_effect, link_refusal}
+use Rattle.xp_protocol.specs.Pulling.{counters_pulled, is_bad_counter, is_bad_put, shown_empty, entry_pulled, run_copied, run_fault, run_now, words_each as pull_words, found_by, take_refusal}
 use Rattle.xp_protocol.specs.Releasing.{Releasing, fronted, message_released, release_refusal}
-use Rattle.xp_protocol.specs.State.{End, Shake, no_shake, Size, Replied, Contact, Sides, idle_end, warm_end, size_of, size_in, state_by, both_complete, link_of, is_begun, is_connected}
-use Rattle.xp_protocol.specs.Linking.{hear, hears, by_send, by_pull, sender_counters, acknowledged, release_notes, link_can, link_effect, copy_failed, down_notes, down_end, close_now, link_closed, link_down, kept_for, fresh_end, link_finished, link_joined, joined_end, booted_end, channel_closed, epoch_over, is_ended, are_unequal, unequal, changed, kind_left, kind_got, is_request, request_handled, reply_handled, is_code, code_handled, message_got, refused, kind_refused, well_handled, handled, has_argument, handled_next, settle, connection_noted, settled, with_taken, flags_got, entries_in, limit_in, end_sent, with_sent, control_sent, flag_sent, with_argument, argument_read, argument_stored}
+use Rattle.xp_protocol.specs.State.{End, Shake, no_shake, Size, Replied, Contact, idle_end, warm_end, size_of, size_in, state_by, both_complete, link_of, is_begun, is_connected}
+use Rattle.xp_protocol.specs.Linking.{hear, hears, by_send, by_pull, sender_counters, acknowledged, release_notes, link_can, link_effect, copy_failed, down_notes, down_end, close_now, link_down, kept_for, fresh_end, link_finished, link_joined, booted_end, channel_closed, epoch_over, is_ended, are_unequal, unequal, changed, kind_got, is_request, request_handled, reply_handled, is_code, code_handled, refused, kind_refused, well_handled, handled, has_argument, handled_next, settle, settled, with_taken, flags_got, limit_in, end_sent, control_sent, flag_sent, with_argument, argument_read, argument_stored}
 use Rattle.xp_protocol.specs.Rules.{link_answered, end_failed}
-use Rattle.xp_protocol.specs.Acts.{say, limit_by, limit_of, too_long, first_of, refused_send, send_begun, take_begun, release_held, release_begun, drain_refusal, drain_begun, register_begun, withdrawn, unregister_begun, end_begun, take_found, taken_by, take_answered, end_answered, end_noticed}
+use Rattle.xp_protocol.specs.Acts.{say, limit_by, limit_of, too_long, first_of, refused_send, send_begun, take_begun, release_held, release_begun, drain_refusal, drain_begun, register_begun, unregister_begun, end_begun, taken_by, take_answered, end_answered, end_noticed}
 
 -- 1 where there is something
 abbrev pub one_of : {A : Type 0} → Option A → ℕ

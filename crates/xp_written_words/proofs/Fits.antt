@@ -5,24 +5,21 @@ use Rattle.std.specs.Int.{bit_at}
 use Rattle.std.proofs.lemmas.Bool.{cond_both, and_parts, eqb-true, eq-eqb, cases_eq, ltb-true}
 use Rattle.std.proofs.lemmas.Bool.Decides.{nat_tests}
 use Rattle.std.proofs.lemmas.Nat.{or_lt, and_le_l, pow_pos, pow_below}
-use Rattle.std.proofs.lemmas.Nat.Bits.{bit_at_or, bit_at_and, bit_at-pow_other, bit_at-lt, bit_at-zero}
+use Rattle.std.proofs.lemmas.Nat.Bits.{bit_at_or, bit_at_and, bit_at-pow_other, bit_at-zero}
 use Rattle.std.proofs.Math.Nat.{div-lt_iff_lt-mul}
-use Rattle.byteorder.specs.Endian.{little_from}
 use Rattle.byteorder.specs.Numbers.{little_from-lt}
-use Rattle.xp_base.specs.declared.layout.TheConstants.{VERSION_AT, VARIABLES_AT, BUFFER_WORDS}
-use Rattle.xp_base.specs.declared.link.Kind.{Kind}
+use Rattle.xp_base.specs.declared.layout.TheConstants.{VERSION_AT, BUFFER_WORDS}
 use Rattle.xp_base.specs.declared.step.OpKind.{OpKind}
 use Rattle.xp_base.specs.declared.step.OpKind.TheVariants.{Load, Store, Or, And, Take}
 use Rattle.xp_base.specs.declared.reason.Reason.{Reason}
 use Rattle.xp_base.specs.declared.reason.Reason.TheVariants.{Unregistered, PartnerClosed, UnequalSizes, CopyError, NoHeartbeat, Reactivating, OtherGoingDown, Unloading, BadVersion, BadMagic, BadArgs, BadCounters, BadLength, BadNumber, BadFlags}
 use Rattle.xp_base.specs.Reasons.{reason_code}
 use Rattle.xp_base.specs.Entries.{lines, entry_words, message_word}
-use Rattle.xp_base.specs.Kinds.{IsFlagWord, flag, spare_in}
-use Rattle.xp_base.specs.Places.{Place, Open, Record, Flag, Args, Counter, Entry, Pool, Beyond, IsWithin, index_of}
-use Rattle.xp_base.proofs.KindLemmas.{IsFlagWord-set}
+use Rattle.xp_base.specs.Kinds.{IsFlagWord, spare_in}
+use Rattle.xp_base.specs.Places.{Place, Open, Record, Flag, Args, Counter, Entry, Pool, Beyond, IsWithin}
 use Rattle.xp_page.specs.declared.grammar.Allowed.TheVariants.{Others, Request, Length as LengthWord, FlagBits as Flags, ZeroOr, Between}
 use Rattle.xp_page.specs.declared.grammar.PageCause.TheVariants.{Length as LengthCause}
-use Rattle.xp_page.specs.Grammar.{allows, row, any, are_entries, is_request, no_spare}
+use Rattle.xp_page.specs.Grammar.{allows, row, any, are_entries, no_spare}
 use Rattle.xp_page.specs.Reading.{row_at}
 use Rattle.xp_dump_table.specs.declared.layout.Layout.TheVariants.{Newer}
 use Rattle.xp_dump_table.specs.declared.layout.Field.{Field}

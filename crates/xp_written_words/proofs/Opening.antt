@@ -1,16 +1,16 @@
 -- The words of the opening fit their places, and what each partition knows at the opening.
-use Rattle.std.proofs.Common.{◌≡◌, ℕ, zero, suc, ◌+◌, ◌-◌, ◌*◌, ◌^◌, ◌<◌, ◌≤◌, Bool, true, false, ◌&&◌, ◌||◌, cond, eqb, bit_or, List, [], ◌∷◌, ◌++◌, length, replicate, refl, ap, sym, ◌∙◌, subst, arith, Option, Some, None, inl, inr, ◌⊎◌}
-use Rattle.std.specs.Prelude.{nat_lt, nat_le}
+use Rattle.std.proofs.Common.{◌≡◌, ℕ, zero, suc, ◌+◌, ◌-◌, ◌^◌, ◌<◌, ◌≤◌, Bool, true, false, ◌&&◌, ◌||◌, cond, eqb, List, [], ◌∷◌, ◌++◌, replicate, refl, ap, sym, ◌∙◌, subst, arith, Some, inl, inr, ◌⊎◌}
+use Rattle.std.specs.Prelude.{nat_lt}
 use Rattle.std.specs.List.{slice_get, AllByRecursion}
 use Rattle.std.proofs.lemmas.Bool.{cond_both, and_parts, eqb-true, cases_eq, cases_lt, ne_eqb}
 use Rattle.std.proofs.lemmas.Bool.Decides.{nat_tests}
 use Rattle.std.proofs.lemmas.List.{get_or_past, get_or-replicate, length-replicate}
-use Rattle.std.proofs.lemmas.Nat.{or_comm, pow_below, pow_pos}
+use Rattle.std.proofs.lemmas.Nat.{or_comm, pow_below}
 use Rattle.xp_base.specs.declared.body.TheConstants.{LINE_BYTES}
-use Rattle.xp_base.specs.declared.layout.TheConstants.{VERSION_AT, STAMP, SIGNATURE, SECOND, OPEN_WORDS}
+use Rattle.xp_base.specs.declared.layout.TheConstants.{VERSION_AT, STAMP, SIGNATURE, OPEN_WORDS}
 use Rattle.xp_base.specs.Places.{Place, Open, Record, Flag, Args, Counter, Entry, Pool, Beyond, IsWithin, index_of}
 use Rattle.xp_page.specs.Grammar.{allows}
-use Rattle.xp_page.specs.declared.grammar.Allowed.TheVariants.{Between, AllOf}
+use Rattle.xp_page.specs.declared.grammar.Allowed.TheVariants.{Between}
 use Rattle.xp_dump_table.specs.declared.layout.Layout.TheVariants.{Newer}
 use Rattle.xp_dump_table.specs.declared.layout.Field.TheVariants as fields
 use Rattle.xp_dump_table.specs.Layouts.{place_of}
@@ -24,17 +24,15 @@ use Rattle.xp_script.specs.Opening.{version_word, page_words, partner_mask, boot
 use Rattle.xp_script.specs.Parts.{part_of, links_of, link_in}
 use Rattle.xp_script.specs.Settings.{minor_of, joins}
 use Rattle.xp_script.specs.Sizes.{longest_limit}
-use Rattle.xp_protocol.specs.Parts.{IsRequestSize}
-use Rattle.xp_protocol.specs.State.{Peer, End, Old, Off, Life, cold_peer, idle_end, size_of, warm_end, warm_peer, base_peer, first_peers, opened_peers, opened_state, opening_life, opening_stamp, peer_at, link_at}
-use Rattle.xp_protocol.proofs.Frames.{idle_at}
+use Rattle.xp_protocol.specs.State.{Peer, End, Old, cold_peer, idle_end, size_of, warm_end, warm_peer, base_peer, first_peers, opened_peers, opened_state, opening_life, opening_stamp, peer_at}
 use Rattle.xp_protocol.proofs.LawfulParts.{AreLawfulLines}
 use Rattle.xp_protocol.proofs.Opened.{start_all}
 use Rattle.xp_protocol.proofs.Slots.{at_peer, at_slot}
 use Rattle.xp_meetings.proofs.Links.{found, line}
 use Rattle.xp_meetings.proofs.Opening.{write_words, open_words, opened_words, opening_words, opening_stamped}
 use Rattle.xp_meetings.proofs.Words.{Words, same, same_told, self, write}
-use Rattle.xp_written_words.proofs.Fits.{Fits, AllFit, IsBehind, part_at, IsOthers, others_or, others_zero, own_place, request_allowed, request_small, zero_fits}
-use Rattle.xp_written_words.proofs.Ends.{Backed, facts, IsSizeTo, idle_backed, warm_backed}
+use Rattle.xp_written_words.proofs.Fits.{Fits, IsBehind, part_at, IsOthers, others_or, others_zero, own_place, request_allowed, request_small, zero_fits}
+use Rattle.xp_written_words.proofs.Ends.{Backed, facts, IsSizeTo, warm_backed}
 use Rattle.xp_written_words.proofs.Peers.{IsBacked, IsShut, cold_backed}
 use Rattle.xp_written_words.proofs.Parts.{Knows, booting}
 use Rattle.xp_written_words.proofs.Rules.{mask_fits, engaged_fits, activation_fits, deactivation_fits}
@@ -240,14 +238,31 @@ module _ (s : Scenario) (law : IsLawful s) (p : ℕ) (lp : p < s.count) where
   link_ok : (l : Link) → Lawful l → AllOk n minor p (link_words l)
   link_ok l k =
       let q = k.partner in
-      let c = k.channel in
-      (record { small = omega arith; allowed = refl; exact = tt }, (record { small = omega arith; allowed = refl; exact = tt }, (record { small = omega arith; allowed = refl; exact = tt },
-      (record { small = omega (arith, q, high); allowed = own_place (place_of Newer (fields.Args l.partner 0 0)) (index_of (Args l.partner 0 0)) (omega arith); exact = tt },
-      (record { small = omega (arith, q, high); allowed = own_place (place_of Newer (fields.Counter l.partner 0 0)) (index_of (Counter l.partner 0 0)) (omega arith); exact = tt },
-      (record { small = omega (arith, q, high); allowed = own_place (place_of Newer (fields.Flag l.partner)) (index_of (Flag l.partner)) (omega arith); exact = tt },
-      (record { small = omega arith; allowed = refl; exact = tt },
-      (record { small = request_small (size_of l) k.size.0; allowed = request_allowed (size_of l) k.size.0; exact = tt },
-      (record { small = omega (arith, q, c, high); allowed = own_place (place_of Newer (fields.Entry l.partner l.channel 0)) (index_of (Entry l.partner l.channel 0)) (omega arith); exact = tt }, tt)))))))))
+      let c = k.channel in (
+        record { small = omega arith; allowed = refl; exact = tt },
+        (
+          record { small = omega arith; allowed = refl; exact = tt },
+          (
+            record { small = omega arith; allowed = refl; exact = tt },
+            (
+              record { small = omega (arith, q, high); allowed = own_place (place_of Newer (fields.Args l.partner 0 0)) (index_of (Args l.partner 0 0)) (omega arith); exact = tt },
+              (
+                record { small = omega (arith, q, high); allowed = own_place (place_of Newer (fields.Counter l.partner 0 0)) (index_of (Counter l.partner 0 0)) (omega arith); exact = tt },
+                (
+                  record { small = omega (arith, q, high); allowed = own_place (place_of Newer (fields.Flag l.partner)) (index_of (Flag l.partner)) (omega arith); exact = tt },
+                  (
+                    record { small = omega arith; allowed = refl; exact = tt },
+                    (
+                      record { small = request_small (size_of l) k.size.0; allowed = request_allowed (size_of l) k.size.0; exact = tt },
+                      (record { small = omega (arith, q, c, high); allowed = own_place (place_of Newer (fields.Entry l.partner l.channel 0)) (index_of (Entry l.partner l.channel 0)) (omega arith); exact = tt }, tt),
+                    ),
+                  ),
+                ),
+              ),
+            ),
+          ),
+        ),
+      )
 
   links_ok : (ls : List Link) → AreLawful ls → AllOk n minor p (all_link_words ls)
   links_ok [] h = tt

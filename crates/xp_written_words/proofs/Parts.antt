@@ -1,5 +1,5 @@
 -- What a partition knows of the words that it stores, after each rule, each act and each moment.
-use Rattle.std.proofs.Common.{◌≡◌, ℕ, ◌+◌, ◌-◌, ◌^◌, ◌<◌, ◌≤◌, Bool, true, false, ◌&&◌, not, cond, ltb, List, [], ◌∷◌, length, set, refl, ap, sym, ◌∙◌, subst, arith, Option, Some, None}
+use Rattle.std.proofs.Common.{◌≡◌, ℕ, ◌+◌, ◌^◌, ◌<◌, ◌≤◌, Bool, true, false, ◌&&◌, not, cond, ltb, length, set, refl, sym, ◌∙◌, subst, arith, Option, Some, None}
 use Rattle.std.specs.Prelude.{slice_get, IsSome}
 use Rattle.xp_base.specs.declared.body.TheConstants.{LINE_BYTES}
 use Rattle.xp_base.specs.declared.step.Answer.{Answer}
@@ -7,20 +7,19 @@ use Rattle.xp_base.specs.declared.step.Answer.TheVariants.{Word, Failed}
 use Rattle.xp_base.specs.History.{Act, Begun, Answered, Noticed}
 use Rattle.xp_script.specs.declared.command.Command.{Command}
 use Rattle.xp_script.specs.declared.part.ScenarioPart.{ScenarioPart}
-use Rattle.xp_protocol.specs.declared.rule.OwnRule.{OwnRule}
 use Rattle.xp_protocol.specs.declared.rule.OwnRule.TheVariants.{ReadEngaged, TakeDeactivation, ReadStamp, ZeroMask, ZeroOffline, WriteStamp, StoreMask, TakeActivation}
 use Rattle.xp_protocol.specs.declared.rule.Rule.{Rule}
 use Rattle.xp_protocol.specs.declared.rule.Rule.TheVariants.{Link, Peer as ForPeer, Own}
 use Rattle.xp_protocol.specs.Parts.{script_in}
 use Rattle.xp_protocol.specs.Peering.{peer_read, deactivation_heard, booted_peer, or_zero}
-use Rattle.xp_protocol.specs.State.{State, Life, Booting, Up, Halted, Peer, Old, cold_peer, peer_at, peer_of, end_of}
-use Rattle.xp_protocol.specs.Rules.{Can, here_of, mark_of, place_for, after_answer, own_lives, peer_numbered}
-use Rattle.xp_protocol.specs.Acts.{Aim, MayAct, after_act, command_begun, aimed, aim_of, aim_by, EndName, named_end, upcoming, current, end_begun, end_answered, end_noticed, with_aim, unwanted, wanted_again}
+use Rattle.xp_protocol.specs.State.{State, Life, Booting, Up, Halted, Peer, Old, cold_peer, peer_of, end_of}
+use Rattle.xp_protocol.specs.Rules.{Can, here_of, mark_of, place_for, after_answer, peer_numbered}
+use Rattle.xp_protocol.specs.Acts.{Aim, MayAct, after_act, command_begun, aimed, aim_of, aim_by, EndName, named_end, upcoming, current, end_begun, end_answered, with_aim}
 use Rattle.xp_protocol.specs.Runs.{turned, restart_comes, stop_comes, moment_by, moment, is_over}
 use Rattle.xp_protocol.proofs.Slots.{at_each, at_peer}
 use Rattle.xp_protocol.proofs.Frames.{AreAll, rule_all, act_all, cold_all, wanted_at}
-use Rattle.xp_written_words.proofs.Ends.{Backed, facts, more_begun, IsBackedCommand, linked, answers, notices, begins}
-use Rattle.xp_written_words.proofs.Peers.{BackedBy, IsBacked, IsShut, more_peer, peered, numbered, failed, freed, told, set_end, booted, shut_read, shut_told, cold_backed, opens, numbered_prepared}
+use Rattle.xp_written_words.proofs.Ends.{Backed, facts, IsBackedCommand, linked, answers, notices, begins}
+use Rattle.xp_written_words.proofs.Peers.{IsBacked, IsShut, more_peer, peered, numbered, failed, freed, told, set_end, booted, shut_read, shut_told, cold_backed, opens, numbered_prepared}
 
 -- 1 before the stamp of a boot is stored
 abbrev pub booting : Life → ℕ

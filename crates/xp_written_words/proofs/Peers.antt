@@ -1,5 +1,5 @@
 -- What a partition knows of the words that are stored for a partner: the session that was read has 64 bits, an area is opened fewer than 2 ^ 32 times in a boot, and each end is backed.
-use Rattle.std.proofs.Common.{◌≡◌, ℕ, ◌+◌, ◌^◌, ◌<◌, ◌≤◌, Bool, true, false, not, ◌&&◌, ◌||◌, cond, eqb, ltb, List, [], ◌∷◌, ◌++◌, length, set, refl, ap, sym, subst, arith, Option, Some, None}
+use Rattle.std.proofs.Common.{◌≡◌, ℕ, ◌^◌, ◌<◌, ◌≤◌, Bool, true, false, not, ◌&&◌, cond, eqb, List, [], ◌∷◌, ◌++◌, length, set, refl, sym, subst, arith, Option, Some, None}
 use Rattle.std.specs.Prelude.{is_some, nat_lt, nat_eq}
 use Rattle.std.proofs.lemmas.Bool.{and_parts, ltb-true}
 use Rattle.xp_base.specs.declared.body.TheConstants.{LINE_BYTES}

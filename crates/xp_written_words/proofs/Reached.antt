@@ -1,24 +1,23 @@
 -- Each word fits its place after every history that the rules reach.
-use Rattle.std.proofs.Common.{◌≡◌, ℕ, zero, suc, ◌+◌, ◌-◌, ◌^◌, ◌<◌, ◌≤◌, Bool, true, false, ◌&&◌, not, cond, eqb, List, [], ◌∷◌, length, get_or, refl, ap, sym, ◌∙◌, subst, arith, Option, Some, None, inl, inr, ◌⊎◌}
-use Rattle.std.specs.Prelude.{count_by, sum_by, nat_lt}
-use Rattle.std.specs.List.{slice_get, AllByRecursion}
+use Rattle.std.proofs.Common.{◌≡◌, ℕ, zero, suc, ◌+◌, ◌-◌, ◌^◌, ◌<◌, ◌≤◌, Bool, true, false, ◌&&◌, not, cond, List, [], ◌∷◌, length, get_or, refl, ap, sym, ◌∙◌, subst, arith, Option, Some, None, inl, inr, ◌⊎◌}
+use Rattle.std.specs.Prelude.{sum_by, nat_lt}
+use Rattle.std.specs.List.{slice_get}
 use Rattle.std.proofs.lemmas.Bool.{cases_eq, cases_lt, ne_eqb}
 use Rattle.std.proofs.lemmas.List.{get_or_past}
 use Rattle.std.proofs.lemmas.List.Sums.{get_or-le-sum_by}
 use Rattle.xp_base.specs.declared.layout.TheConstants.{STAMP}
-use Rattle.xp_base.specs.declared.step.Answer.{Answer}
 use Rattle.xp_base.specs.declared.step.Answer.TheVariants.{Word, Failed}
 use Rattle.xp_base.specs.declared.step.OpKind.{OpKind}
 use Rattle.xp_base.specs.declared.step.OpKind.TheVariants.{Load, Store, Or, And, Take}
 use Rattle.xp_base.specs.Memory.{Memory, answer_of}
 use Rattle.xp_base.specs.History.{Act, Event, turns_of}
-use Rattle.xp_base.specs.Places.{Open, IsWithin}
+use Rattle.xp_base.specs.Places.{Open}
 use Rattle.xp_script.specs.declared.command.Command.{Command}
 use Rattle.xp_script.specs.declared.command.Command.TheVariants as commands
 use Rattle.xp_script.specs.declared.limits.TheConstants.{COMMAND_LIMIT}
 use Rattle.xp_script.specs.declared.part.ScenarioPart.{ScenarioPart}
 use Rattle.xp_script.specs.declared.scenario.Scenario.{Scenario}
-use Rattle.xp_script.specs.Lawful.{IsLawful, IsLawfulCommand, AreLawfulCommands, AreLawfulBoots, boots_of, is_restart_of}
+use Rattle.xp_script.specs.Lawful.{IsLawful, IsLawfulCommand, AreLawfulCommands, AreLawfulBoots, boots_of}
 use Rattle.xp_script.specs.Opening.{opening}
 use Rattle.xp_script.specs.Parts.{part_of}
 use Rattle.xp_script.specs.Settings.{minor_of}
@@ -37,7 +36,7 @@ use Rattle.xp_protocol.specs.Peering.{or_zero}
 use Rattle.xp_protocol.specs.State.{State}
 use Rattle.xp_protocol.specs.Rules.{Can, row_of, owner}
 use Rattle.xp_protocol.specs.Acts.{MayAct, Aim, with_aim, aimed}
-use Rattle.xp_protocol.specs.Runs.{start, turned, moment_by, restart_comes, stop_comes, is_over, state_after}
+use Rattle.xp_protocol.specs.Runs.{turned, moment_by, restart_comes, stop_comes, is_over}
 use Rattle.xp_protocol.specs.Reached.{ReachedWords}
 use Rattle.xp_protocol.proofs.Undo.{within, owner_low}
 use Rattle.xp_protocol.proofs.LawfulParts.{lawful_part, request_size}
@@ -45,8 +44,8 @@ use Rattle.xp_meetings.proofs.Always.{at_one, one_here, does_rule, answer_word, 
 use Rattle.xp_meetings.proofs.Opening.{opening_words, agrees_opening}
 use Rattle.xp_meetings.proofs.Parts.{Part, part_act, part_ruled, part_moment, part_opened, part_start, part_from, from_state}
 use Rattle.xp_meetings.proofs.Starts.{starts}
-use Rattle.xp_meetings.proofs.Words.{Words, Agrees, does, far, self}
-use Rattle.xp_written_words.proofs.Fits.{Fits, AllFit, does_fits}
+use Rattle.xp_meetings.proofs.Words.{Words, Agrees, far, self}
+use Rattle.xp_written_words.proofs.Fits.{AllFit, does_fits}
 use Rattle.xp_written_words.proofs.Ends.{IsBackedCommand}
 use Rattle.xp_written_words.proofs.Parts.{Knows, known_rule, known_act, known_moment}
 use Rattle.xp_written_words.proofs.Rules.{good}

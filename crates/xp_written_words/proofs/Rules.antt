@@ -1,16 +1,15 @@
 -- The word that stands after each step fits its place.
-use Rattle.std.proofs.Common.{◌≡◌, ℕ, zero, suc, ◌+◌, ◌*◌, ◌%◌, ◌^◌, ◌<◌, ◌≤◌, Bool, true, false, ◌&&◌, ◌||◌, cond, bit_or, List, [], ◌∷◌, length, refl, ap, sym, ◌∙◌, subst, arith, Option, Some, None, inl, inr, ◌⊎◌}
-use Rattle.std.specs.Prelude.{IsSome, nat_le, nat_lt}
+use Rattle.std.proofs.Common.{◌≡◌, ℕ, zero, suc, ◌+◌, ◌%◌, ◌^◌, ◌<◌, ◌≤◌, Bool, true, false, ◌&&◌, ◌||◌, cond, bit_or, List, [], ◌∷◌, length, refl, ap, sym, ◌∙◌, subst, arith, Option, Some, None}
+use Rattle.std.specs.Prelude.{IsSome, nat_lt}
 use Rattle.std.specs.Int.{bit_at}
-use Rattle.std.proofs.lemmas.Bool.{cond_both, cases_eq}
+use Rattle.std.proofs.lemmas.Bool.{cond_both}
 use Rattle.std.proofs.lemmas.Bool.Decides.{nat_tests}
 use Rattle.std.proofs.lemmas.Nat.{or_lt, pow_pos, pow_below}
-use Rattle.std.proofs.lemmas.Nat.Bits.{bit_at_or, bit_at-pow_other, bit_at-lt, bit_at-zero}
-use Rattle.xp_base.specs.declared.layout.TheConstants.{VERSION_AT, STAMP, MASK, OFFLINE, ACTIVATION, ENGAGED, DEACTIVATION}
+use Rattle.std.proofs.lemmas.Nat.Bits.{bit_at_or, bit_at-pow_other, bit_at-zero}
+use Rattle.xp_base.specs.declared.layout.TheConstants.{VERSION_AT, STAMP, MASK, ACTIVATION, ENGAGED, DEACTIVATION}
 use Rattle.xp_base.specs.declared.link.Kind.{Kind}
 use Rattle.xp_base.specs.declared.reason.Reason.{Reason}
-use Rattle.xp_base.specs.declared.step.OpKind.TheVariants.{Load}
-use Rattle.xp_base.specs.Kinds.{IsFlagWord, flag}
+use Rattle.xp_base.specs.Kinds.{flag}
 use Rattle.xp_base.specs.Places.{Place, Open, Record, Flag, Args, Counter, Entry, index_of}
 use Rattle.xp_base.proofs.KindLemmas.{IsFlagWord-set}
 use Rattle.xp_page.specs.declared.grammar.Allowed.{Allowed}
@@ -39,9 +38,9 @@ use Rattle.xp_protocol.specs.declared.rule.Rule.{Rule}
 use Rattle.xp_protocol.specs.declared.rule.Rule.TheVariants.{Link, Peer as ForPeer, Own}
 use Rattle.xp_protocol.specs.Parts.{script_in}
 use Rattle.xp_protocol.specs.Sending.{Send, payload_of, next_slot}
-use Rattle.xp_protocol.specs.State.{State, End, Peer, Engage, Size, request_word, peer_at, peer_of, end_of}
+use Rattle.xp_protocol.specs.State.{State, End, Peer, Engage, Size, peer_at, peer_of, end_of}
 use Rattle.xp_protocol.specs.Linking.{request_of, code_of}
-use Rattle.xp_protocol.specs.Peering.{is_masked, is_open, is_off, is_prepared, mask_from, or_zero, session_next, field_word}
+use Rattle.xp_protocol.specs.Peering.{is_masked, is_off, is_prepared, mask_from, or_zero, session_next, field_word}
 use Rattle.xp_base.specs.Entries.{message_word}
 use Rattle.xp_base.specs.Sessions.{session_word}
 use Rattle.xp_protocol.specs.Rules.{Can, row_of, owner}
@@ -49,7 +48,7 @@ use Rattle.xp_protocol.proofs.Undo.{within, owner_low}
 use Rattle.xp_protocol.proofs.LawfulParts.{lawful_part}
 use Rattle.xp_meetings.proofs.Words.{Words}
 use Rattle.xp_written_words.proofs.Fits.{Fits, AllFit, part_at, stepped, IsOthers, others_allowed, allowed_others, others_or, others_and, others_zero, mask_small, flags_word, flags_allowed, word_small, entry_allowed, request_allowed, request_small, own_place, code_allowed, zero_fits}
-use Rattle.xp_written_words.proofs.Ends.{one_of, Backed, facts, IsSizeTo}
+use Rattle.xp_written_words.proofs.Ends.{Backed, facts, IsSizeTo}
 use Rattle.xp_written_words.proofs.Peers.{IsShut}
 use Rattle.xp_written_words.proofs.Parts.{Knows}
 
