@@ -6,3 +6,5 @@ pub mod Recorded
 pub mod HostStays
 pub mod OldBits
 pub mod Guests
+pub mod Rising
+pub mod SessionsKept

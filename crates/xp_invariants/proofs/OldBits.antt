@@ -35,7 +35,7 @@ use Rattle.xp_invariants.proofs.Standing.{Standing, lawful, stands_act, stands_r
 abbrev pub Old : ℕ → ℕ → Life → ℕ → Bool → ℕ → Type 0
 Old n v life boots cleared bit = (n ≤ boots) × (boots ≡ n → (life ≡ Up → ⊥) → cleared ≡ false → bit ≡ v)
 
-aim_life : (st : State) (o : Option Aim) → (with_aim o st).life ≡ st.life
+pub aim_life : (st : State) (o : Option Aim) → (with_aim o st).life ≡ st.life
 aim_life st None = refl
 aim_life st (Some y) = refl
 

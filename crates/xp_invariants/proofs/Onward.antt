@@ -1,6 +1,6 @@
 -- How a history goes on: by one turn, and by any events from a point where a fact is known.
 use Rattle.std.proofs.Common.{◌≡◌, ℕ, ◌<◌, eqb, Bool, true, false, cond, List, [], ◌∷◌, ◌++◌, refl, ap, sym, ◌∙◌, subst}
-use Rattle.std.proofs.lemmas.Bool.{eq-eqb, ne_eqb}
+use Rattle.std.proofs.lemmas.Bool.{eq-eqb, ne_eqb, eqb-true}
 use Rattle.xp_base.specs.declared.step.Answer.TheVariants.{Word, Failed}
 use Rattle.xp_base.specs.Memory.{Memory}
 use Rattle.xp_base.specs.History.{Act, Marked, Turn, Event, Turned, IsAnswered, Legal, happens, turns_of}
@@ -11,14 +11,14 @@ use Rattle.xp_script.specs.Lawful.{IsLawful}
 use Rattle.xp_script.specs.Opening.{opening}
 use Rattle.xp_script.specs.Parts.{part_of}
 use Rattle.xp_protocol.specs.declared.rule.Rule.{Rule}
-use Rattle.xp_protocol.specs.Acts.{MayAct, after_acts}
+use Rattle.xp_protocol.specs.Acts.{MayAct, MayActs, after_acts}
 use Rattle.xp_protocol.specs.Promised.{known_acted, memory_by}
 use Rattle.xp_protocol.specs.Reached.{ReachedWords, state_at}
 use Rattle.xp_protocol.specs.Rules.{Can}
-use Rattle.xp_protocol.specs.Runs.{May, RunsFrom, after_turn, start, state_after}
+use Rattle.xp_protocol.specs.Runs.{May, RunsFrom, after_step, after_turn, start, state_after}
 use Rattle.xp_protocol.specs.State.{State}
-use Rattle.xp_meetings.proofs.Always.{at_one, always, may_by, does_rule, answer_word}
-use Rattle.xp_meetings.proofs.Parts.{Part, part_start, part_act, part_from, part_moment, part_ruled, part_turn, acts_state, from_state}
+use Rattle.xp_meetings.proofs.Always.{at_one, acts_at, after_by, always, may_by, moment_at, one_kept, does_rule, answer_word}
+use Rattle.xp_meetings.proofs.Parts.{Part, part_start, part_act, part_acts, part_from, part_moment, part_ruled, part_step, part_turn, acts_state, from_state}
 use Rattle.xp_meetings.proofs.Words.{Words, Agrees}
 use Rattle.xp_promises.proofs.Before.{Legal-prefix, is_part, part_at, at_step, split, memory-append}
 
@@ -77,3 +77,27 @@ module _ (s : Scenario) where
         let z = always (part_of s) s.count (is_part s law) Inv keeps_act keeps_rule keeps_failed keeps_moment fs (memory_by (opening s) es) m w (part_at s es) k.parts (Legal-prefix es fs (opening s) m r.legal).1 runs g i in
         let P : (ℕ → Part) → Type 0 = λ σ. Inv z.0 σ in
         (z.0, z.1, subst P (λ j p. part_at_more es fs p j) z.2)
+
+    -- the same from the middle of a turn, when its step is made
+    pub turn_done : (before after : List Event) (p : ℕ) (t : Turn) (m : Memory) → ReachedWords s (before ++ Turned p t ∷ after) m → (v : Words) → Inv v (at_one (part_at s before) p (part_step (part_of s p) (at_step s before p t) t.made)) → Inv v (part_at s (before ++ Turned p t ∷ []))
+    turn_done before after p t m r v i =
+        let su = part_of s p in
+        let σ = part_at s before in
+        let k = next before after p t m r in
+        let x = part_step su (at_step s before p t) t.made in
+        let may : MayActs su x.state t.after = subst (λ (st : State). MayActs su (after_step su st t.made) t.after) (sym (step_state before p t)) k.may.after in
+        let a = acts_at (part_of s) s.count (is_part s law) Inv keeps_act keeps_rule keeps_failed keeps_moment v σ p x t.after k.low i may in
+        let b = moment_at (part_of s) s.count (is_part s law) Inv keeps_act keeps_rule keeps_failed keeps_moment v σ p (σ p).state.clock.puts (part_acts su x t.after) k.low a in
+        let new = part_turn su (σ p) t in
+        let here : (j : ℕ) → eqb p j ≡ true → new ≡ part_turn (part_of s j) (σ j) t = λ j e. ap (λ (y : ℕ). part_turn (part_of s y) (σ y) t) (eqb-true p j e) in
+        let P : (ℕ → Part) → Type 0 = λ τ. Inv v τ in
+        subst P (λ n j. (after_by (part_of s j) (σ j) new (eqb p j) t [] (here j) ∙ part_at_more before (Turned p t ∷ []) j) n) b
+
+    -- and up to a step of the next turn
+    pub acts_done : (es fs : List Event) (p : ℕ) (t : Turn) (m : Memory) → ReachedWords s (es ++ Turned p t ∷ fs) m → (v : Words) → Inv v (part_at s es) → Inv v (at_one (part_at s es) p (at_step s es p t))
+    acts_done es fs p t m r v i =
+        let k = next es fs p t m r in
+        let σ = part_at s es in
+        let P : (ℕ → Part) → Type 0 = λ τ. Inv v τ in
+        let may : MayActs (part_of s p) (σ p).state t.before = subst (λ (st : State). MayActs (part_of s p) st t.before) (sym (from_state (part_of s p) (part_start (part_of s p)) (turns_of p es))) k.may.before in
+        acts_at (part_of s) s.count (is_part s law) Inv keeps_act keeps_rule keeps_failed keeps_moment v σ p (σ p) t.before k.low (subst P (sym (one_kept σ p)) i) may

@@ -1,2 +1,4 @@
 pub mod Between
 pub mod Hosts
+pub mod Sessions
+pub mod Flags

@@ -57,7 +57,7 @@ runs_by : (su : ScenarioPart) (k k' : Part) (b : Bool) (t : Turn) (ts : List Tur
 runs_by su k k' true t ts e r = let P : Part → Type 0 = λ x. RunsFrom su x.state ts in subst P (sym (e refl)) (subst (λ (x : State). RunsFrom su x ts) (sym (turn_state su k t)) r.1)
 runs_by su k k' false t ts e r = r
 
-after_by : (su : ScenarioPart) (k k' : Part) (b : Bool) (t : Turn) (ts : List Turn) → (b ≡ true → k' ≡ part_turn su k t) → part_from su (cond b k' k) ts ≡ part_from su k (cond b (t ∷ ts) ts)
+pub after_by : (su : ScenarioPart) (k k' : Part) (b : Bool) (t : Turn) (ts : List Turn) → (b ≡ true → k' ≡ part_turn su k t) → part_from su (cond b k' k) ts ≡ part_from su k (cond b (t ∷ ts) ts)
 after_by su k k' true t ts e = ap (λ (x : Part). part_from su x ts) (e refl)
 after_by su k k' false t ts e = refl
 
@@ -99,7 +99,7 @@ module _ (s : ℕ → ScenarioPart) (n : ℕ) (lawful : (p : ℕ) → p < n → 
       let P : Part → Type 0 = λ y. Inv w (at_one (at_one σ q x) q (part_ruled (s q) y r Failed)) in
       moves_at w w σ q x (part_ruled (s q) x r Failed) (λ j. subst P e (keeps_failed w (at_one σ q x) q r l j (subst M (sym e) m))) i
 
-  moment_at : (w : Words) (σ : ℕ → Part) (q earlier : ℕ) (x : Part) → q < n → Inv w (at_one σ q x) → Inv w (at_one σ q (part_counted (s q) earlier x))
+  pub moment_at : (w : Words) (σ : ℕ → Part) (q earlier : ℕ) (x : Part) → q < n → Inv w (at_one σ q x) → Inv w (at_one σ q (part_counted (s q) earlier x))
   moment_at w σ q earlier x l i =
       let P : Part → Type 0 = λ y. Inv w (at_one (at_one σ q x) q (part_counted (s q) earlier y)) in
       moves_at w w σ q x (part_counted (s q) earlier x) (λ j. subst P (one_here σ q x) (keeps_moment w (at_one σ q x) q earlier ((at_one σ q x q).state.clock.turns + 1) l j)) i

@@ -531,7 +531,7 @@ module _ (s : Scenario) (lawful : (p : ℕ) → p < s.count → IsLawfulPart (pa
         read_word (Some v) i d = (met.stamps a la).read can.0 v i
 
     -- the own stamps
-    still : (r : Rule) (p : ℕ) → (p ≡ a → ⊥) → words_after r p (Open STAMP) ≡ w p (Open STAMP)
+    pub still : (r : Rule) (p : ℕ) → (p ≡ a → ⊥) → words_after r p (Open STAMP) ≡ w p (Open STAMP)
     still (Own WriteStamp) p n = far (Store _) a (Open STAMP) w p (Open STAMP) (λ e. n (sym e))
     still (Link k d (Ring ReadGet)) p n = refl
     still (Link k d (Ring (WriteEntryWord f))) p n = refl
@@ -572,7 +572,7 @@ module _ (s : Scenario) (lawful : (p : ℕ) → p < s.count → IsLawfulPart (pa
     still (Own StoreMask) p n = refl
     still (Own TakeActivation) p n = refl
 
-    own_stamp : (r : Rule) → (r ≡ Own WriteStamp → ⊥) → words_after r a (Open STAMP) ≡ w a (Open STAMP)
+    pub own_stamp : (r : Rule) → (r ≡ Own WriteStamp → ⊥) → words_after r a (Open STAMP) ≡ w a (Open STAMP)
     own_stamp (Own WriteStamp) n = absurd (n refl)
     own_stamp (Link k d (Ring ReadGet)) n = refl
     own_stamp (Link k d (Ring (WriteEntryWord f))) n = refl
