@@ -1,5 +1,5 @@
--- Which bytes are a dump, word by word: a header, the number of partitions, and the words of each partition. What a word
--- may be depends on the words before it alone. Words are counted from 0.
+-- Which bytes are a dump, word by word: a header, the number of partitions, and the words of each
+-- partition. What a word may be depends on the words before it alone. Words are counted from 0.
 use Rattle.std.specs.Prelude.{◌≡◌, ℕ, ◌+◌, ◌-◌, ◌*◌, ◌/◌, ◌%◌, ◌^◌, ◌<◌, ◌≤◌, Bool, true, false, ◌||◌, ◌&&◌, ◌==◌, nat_le, nat_lt, if◌then◌else◌, List, [], ◌∷◌, length, slice_index_or}
 use Rattle.std.specs.List.{concat}
 use Rattle.xp_base.specs.declared.layout.TheConstants.{VERSION_AT, PART_WORDS, PARTS}
@@ -52,18 +52,25 @@ index_at l k = (k - 2) % words_of l
 
 -- the version word of the partition, once it came
 abbrev pub version_before : Numbered → Layout → ℕ → ℕ → ℕ
-version_before f l owner index = if nat_lt VERSION_AT index then f (number_of l owner VERSION_AT) else 0
+version_before f l owner index = if nat_lt VERSION_AT index then f (number_of l owner VERSION_AT)
+    else 0
 
 -- what word `index` of a partition may be, of a dump with this layout and count
 abbrev pub part_row : Layout → ℕ → ℕ → ℕ → ℕ → Row
-part_row l count version owner index = row_of (record { layout = l; owner = owner; count = count; version = version }) (field_of l index)
+part_row l count version owner index =
+    row_of (record { layout = l; owner = owner; count = count; version = version })
+    (field_of l index)
 
 -- what word k of a partition may be
 unfoldable pub row_at_word : Numbered → ℕ → Row
-row_at_word f k = let l = layout_of (f 0) in part_row l (f 1) (version_before f l (owner_at l k) (index_at l k)) (owner_at l k) (index_at l k)
+row_at_word f k = let l = layout_of (f 0) in
+    part_row l (f 1) (version_before f l (owner_at l k) (index_at l k)) (owner_at l k)
+    (index_at l k)
 
 abbrev pub word_allowed : Numbered → ℕ → Bool
-word_allowed f k = if k == 0 then is_header (f 0) else (if k == 1 then is_count (layout_of (f 0)) (f 1) else allows (row_at_word f k).allowed (f k))
+word_allowed f k = if k == 0 then is_header (f 0)
+    else (if k == 1 then is_count (layout_of (f 0)) (f 1)
+    else allows (row_at_word f k).allowed (f k))
 
 abbrev pub cause_at : Numbered → ℕ → PageCause
 cause_at f k = if k == 0 then Signature else (if k == 1 then Value else (row_at_word f k).cause)
@@ -104,12 +111,13 @@ pub record IsCut (bytes : List ℕ) (fault : PageFault) : Type 0 where
   pub short : length bytes < 8 * total (word_in bytes)
   pub is : fault ≡ record { offset = length bytes; cause = Truncated }
 
--- the memory has the words of the dump: in the newer layout each at its place, in the older one each where it stands in
--- memory now
+-- the memory has the words of the dump: in the newer layout each at its place, in the older one
+-- each where it stands in memory now
 pub record AreWordsOf (f : Numbered) (m : Memory) : Type 0 where
   pub count : length m ≡ f 1
   pub sized : (o : ℕ) → o < length m → length (slice_index_or m o []) ≡ PART_WORDS
-  pub words : (o i : ℕ) → o < length m → i < PART_WORDS → word_at m o i ≡ memory_word (layout_of (f 0)) (λ j. f (number_of (layout_of (f 0)) o j)) i
+  pub words : (o i : ℕ) → o < length m → i < PART_WORDS
+      → word_at m o i ≡ memory_word (layout_of (f 0)) (λ j. f (number_of (layout_of (f 0)) o j)) i
 
 -- these bytes are a dump, and tell this memory
 pub record IsDump (bytes : List ℕ) (m : Memory) : Type 0 where
@@ -123,10 +131,13 @@ IsMissing bytes (Page fault) = IsCut bytes fault
 IsMissing bytes (Trailing offset) = ⊥
 IsMissing bytes NoMemory = ⊥
 
--- a memory whose dump is in the grammar: words of 64 bits, 2 to 64 partitions, and each word allowed in the newer layout
+-- a memory whose dump is in the grammar: words of 64 bits, 2 to 64 partitions, and each word
+-- allowed in the newer layout
 pub record IsInGrammar (m : Memory) : Type 0 where
   pub least : 2 ≤ length m
   pub most : length m ≤ PARTS
   pub sized : (o : ℕ) → o < length m → length (slice_index_or m o []) ≡ PART_WORDS
   pub small : (o i : ℕ) → word_at m o i < 2 ^ 64
-  pub words : (o i : ℕ) → o < length m → i < PART_WORDS → allows (part_row Newer (length m) (word_at m o VERSION_AT) o i).allowed (word_at m o i) ≡ true
+  pub words : (o i : ℕ) → o < length m → i < PART_WORDS
+      → allows (part_row Newer (length m) (word_at m o VERSION_AT) o i).allowed
+      (word_at m o i) ≡ true

@@ -22,7 +22,8 @@ row_next p = part_row p.layout (length p.words) p.version p.owner p.index
 
 -- a word of the dump in memory: of the older layout it moves
 abbrev pub stored : Layout → Memory → ℕ → ℕ → ℕ → Memory
-stored Older m owner index word = put_at m owner (place_of Newer (field_of Older index)) (moved_word (field_of Older index) word)
+stored Older m owner index word = put_at m owner (place_of Newer (field_of Older index))
+    (moved_word (field_of Older index) word)
 stored Newer m owner index word = put_at m owner index word
 
 abbrev pub kept : Parts → ℕ → Parts
@@ -31,8 +32,13 @@ kept p word = record p { words = stored p.layout p.words p.owner p.index word }
 -- the next word of the partition, or the first one of the next partition
 abbrev pub advanced : Parts → ℕ → Parts
 advanced p word =
-    if p.index + 1 == words_of p.layout then record p { owner = p.owner + 1; index = 0; version = 0 }
-    else record p { index = p.index + 1; version = if p.index == VERSION_AT then word else p.version }
+    if p.index + 1 == words_of p.layout
+    then record p { owner = p.owner + 1; index = 0; version = 0 }
+    else record p {
+      index = p.index + 1;
+      version = if p.index == VERSION_AT then word
+          else p.version;
+    }
 
 abbrev pub after_word : Parts → ℕ → Parts
 after_word p word = advanced (kept p word) word
@@ -57,4 +63,6 @@ pub record AreKept (f : Numbered) (p : Parts) : Type 0 where
   pub allowed : AreAllowed f (taken_in p)
   pub version : p.version ≡ version_before f p.layout p.owner p.index
   pub sized : (o : ℕ) → o < length p.words → length (slice_index_or p.words o []) ≡ PART_WORDS
-  pub words : (o i : ℕ) → o < length p.words → i < PART_WORDS → word_at p.words o i ≡ memory_word p.layout (λ j. known f (taken_in p) (number_of p.layout o j)) i
+  pub words : (o i : ℕ) → o < length p.words → i < PART_WORDS
+      → word_at p.words o i ≡ memory_word p.layout
+      (λ j. known f (taken_in p) (number_of p.layout o j)) i

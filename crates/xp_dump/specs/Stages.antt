@@ -22,11 +22,18 @@ refused_at k cause = Page (record { offset = 8 * k; cause = cause })
 
 -- after the header
 abbrev pub header_put : ℕ → Result Stage DumpFault
-header_put w = if w == OLDER_HEADER then Ok (Count Older) else (if w == NEWER_HEADER then Ok (Count Newer) else Err (refused_at 0 Signature))
+header_put w = if w == OLDER_HEADER then Ok (Count Older)
+    else (if w == NEWER_HEADER then Ok (Count Newer) else Err (refused_at 0 Signature))
 
 -- the partitions before their first word
 abbrev pub opened : Layout → ℕ → Parts
-opened l count = record { layout = l; words = blank PART_WORDS count; owner = 0; index = 0; version = 0 }
+opened l count = record {
+  layout = l;
+  words = blank PART_WORDS count;
+  owner = 0;
+  index = 0;
+  version = 0;
+}
 
 -- how many words came before
 abbrev pub taken : Stage → ℕ
@@ -59,7 +66,8 @@ Follows f (Words p) = AreKept f p
 
 -- word k isn't allowed; want of memory may stand in place of that
 abbrev pub IsRefusedAt : Numbered → ℕ → DumpFault → Type 0
-IsRefusedAt f k (Page fault) = (word_allowed f k ≡ false) × (fault ≡ record { offset = 8 * k; cause = cause_at f k })
+IsRefusedAt f k (Page fault) = (word_allowed f k ≡ false)
+    × (fault ≡ record { offset = 8 * k; cause = cause_at f k })
 IsRefusedAt f k (Trailing offset) = ⊥
 IsRefusedAt f k Memory = Unit {0}
 
@@ -70,6 +78,7 @@ pub record Steps (f : Numbered) (old new : Stage) : Type 0 where
 
 -- the number of partitions isn't allowed, or there was no memory for their words
 abbrev pub IsCountFault : Layout → ℕ → DumpFault → Type 0
-IsCountFault l w (Page fault) = (is_count l w ≡ false) × (fault ≡ record { offset = 8; cause = Value })
+IsCountFault l w (Page fault) = (is_count l w ≡ false)
+    × (fault ≡ record { offset = 8; cause = Value })
 IsCountFault l w (Trailing offset) = ⊥
 IsCountFault l w Memory = Unit {0}

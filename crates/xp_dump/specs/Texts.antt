@@ -7,6 +7,7 @@ use Rattle.xp_dump.specs.declared.fault.DumpFault.{DumpFault}
 use Rattle.xp_dump.specs.declared.fault.DumpFault.TheVariants.{Page, Trailing, Memory}
 
 abbrev pub fault_text : DumpFault → List ℕ
-fault_text (Page fault) = codes "offset " ⧺ decimal fault.offset ⧺ codes ": " ⧺ cause_text fault.cause
+fault_text (Page fault) = codes "offset " ⧺ decimal fault.offset ⧺ codes ": "
+    ⧺ cause_text fault.cause
 fault_text (Trailing offset) = codes "offset " ⧺ decimal offset ⧺ codes ": trailing"
 fault_text Memory = codes "no memory"

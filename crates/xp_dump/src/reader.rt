@@ -12,8 +12,8 @@ use std::marker::Model;
 use xp_base::words::Words;
 use xp_ghost_list::GhostList;
 
-/// Reads a dump of either layout. Contracts see the bytes that came, or the first fault, after which
-/// it keeps nothing else.
+/// Reads a dump of either layout. Contracts see the bytes that came, or the first fault, after
+/// which it keeps nothing else.
 #[derive(Drop)]
 pub struct Reader {
     alloc: Global,
@@ -47,8 +47,8 @@ impl Reader {
         })
     }
 
-    /// Takes the next bytes, or tells the first fault of all bytes that came. After a fault it tells
-    /// that fault again.
+    /// Takes the next bytes, or tells the first fault of all bytes that came. After a fault it
+    /// tells that fault again.
     pub fn feed(&mut self, piece: &[u8]) -> Result<(), DumpFault>
         ensures fed { IsFed self.old piece.now result self.new }
         // Of what `dump` wrote no piece is refused; only want of memory may come.
@@ -73,7 +73,8 @@ impl Reader {
     pub fn finish(self) -> Result<Words, DumpFault>
         ensures answer { IsFinished self result }
         // What `dump` wrote is given back, word for word.
-        ensures back { (m : Memory) → self ≡ Reading (dump_bytes m) → IsInGrammar m → result ≡ Ok m }
+        ensures back { (m : Memory) → self ≡ Reading (dump_bytes m) → IsInGrammar m
+            → result ≡ Ok m }
     {
         let Reader { tape, fault, .. } = self;
         match fault {

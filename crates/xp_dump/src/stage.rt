@@ -10,9 +10,9 @@ use crate::fault::DumpFault;
 use crate::parts::Parts;
 use crate::writer::{NEWER_HEADER, OLDER_HEADER};
 use std::alloc::Global;
+use xp_base::layout::WORD_BYTES;
 use xp_base::words::Words;
 use xp_dump_table::Layout;
-use xp_page::image::WORD_BYTES;
 use xp_page::{PageCause, PageFault};
 
 /// The least number of partitions.
@@ -51,7 +51,8 @@ fn put_header(word: u64) -> Result<Stage, DumpFault>
 }
 
 fn put_count(alloc: Global, layout: Layout, word: u64) -> Result<Parts, DumpFault>
-    ensures ok { IfOk result (λ parts. (is_count layout word ≡ true) × (parts ≡ opened layout word)) }
+    ensures ok { IfOk result
+        (λ parts. (is_count layout word ≡ true) × (parts ≡ opened layout word)) }
     ensures err { IfErr result (λ fault. IsCountFault layout word fault) }
 {
     if word < LEAST_PARTS || word > layout.parts() as u64 {
@@ -81,8 +82,10 @@ fn taken_before(parts: &Parts) -> u64
 fn put_word(parts: &mut Parts, word: u64) -> Result<(), DumpFault>
     requires placed { IsPlaced parts.old }
     requires going { IsOpen parts.old }
-    ensures ok { OnOk result ((allows (row_next parts.old).allowed word ≡ true) × (parts.new ≡ after_word parts.old word)) }
-    ensures err { IfErr result (λ fault. (allows (row_next parts.old).allowed word ≡ false) × (fault ≡ refused_at (taken_in parts.old) (row_next parts.old).cause)) }
+    ensures ok { OnOk result ((allows (row_next parts.old).allowed word ≡ true)
+        × (parts.new ≡ after_word parts.old word)) }
+    ensures err { IfErr result (λ fault. (allows (row_next parts.old).allowed word ≡ false)
+        × (fault ≡ refused_at (taken_in parts.old) (row_next parts.old).cause)) }
 {
     let taken = taken_before(parts);
     match parts.put(word) {
@@ -120,7 +123,9 @@ impl Stage {
         requires ready { IsReady self.old }
         requires going { is_whole self.old ≡ false }
         ensures ready { OnOk result (IsReady self.new) }
-        ensures step { (f : Numbered) → Follows f self.old → f (taken self.old) ≡ word → MatchResult result (λ _. Steps f self.old self.new) (λ fault. IsRefusedAt f (taken self.old) fault) }
+        ensures step { (f : Numbered) → Follows f self.old → f (taken self.old) ≡ word
+            → MatchResult result (λ _. Steps f self.old self.new)
+            (λ fault. IsRefusedAt f (taken self.old) fault) }
     {
         match self {
             Stage::Header => {

@@ -10,8 +10,8 @@ use crate::parts::Parts;
 use crate::stage::Stage;
 use byteorder::{ByteOrder, LittleEndian};
 use std::alloc::Global;
+use xp_base::layout::WORD_BYTES;
 use xp_base::words::Words;
-use xp_page::image::WORD_BYTES;
 use xp_page::{PageCause, PageFault};
 
 /// The words that came, and the bytes of the next one that came so far.
@@ -39,7 +39,8 @@ impl Tape {
     pub fn feed(&mut self, alloc: Global, piece: &[u8]) -> Result<(), DumpFault>
         requires { IsTape self.old }
         ensures tape { OnOk result (IsTape self.new) }
-        ensures step { (bytes : List ℕ) → IsRead bytes self.old → IsTaken bytes piece.now result self.new }
+        ensures step { (bytes : List ℕ) → IsRead bytes self.old
+            → IsTaken bytes piece.now result self.new }
     {
         let mut at = 0;
         while at < piece.len() {
@@ -58,7 +59,9 @@ impl Tape {
     // The fault of the next byte, whichever it is: the dump is whole.
     fn fault_past(&self) -> Option<DumpFault>
         requires { IsTape self.now }
-        ensures { MatchOption result (is_whole self.now.stage ≡ false) (λ fault. (is_whole self.now.stage ≡ true) × (fault ≡ Trailing (8 * taken self.now.stage))) }
+        ensures { MatchOption result (is_whole self.now.stage ≡ false)
+            (λ fault. (is_whole self.now.stage ≡ true)
+            × (fault ≡ Trailing (8 * taken self.now.stage))) }
     {
         if self.stage.is_whole() {
             Some(DumpFault::Trailing {
@@ -75,7 +78,8 @@ impl Tape {
         requires none { self.old.filled ≡ 0 }
         requires whole { length bytes.now ≡ WORD_BYTES }
         ensures tape { OnOk result (IsTape self.new) }
-        ensures step { (came : List ℕ) → IsRead came self.old → IsTaken came bytes.now result self.new }
+        ensures step { (came : List ℕ) → IsRead came self.old
+            → IsTaken came bytes.now result self.new }
     {
         if let Some(fault) = self.fault_past() {
             return Err(fault);
@@ -87,7 +91,8 @@ impl Tape {
     fn take_byte(&mut self, alloc: Global, byte: u8) -> Result<(), DumpFault>
         requires { IsTape self.old }
         ensures tape { OnOk result (IsTape self.new) }
-        ensures step { (came : List ℕ) → IsRead came self.old → IsTaken came (byte ∷ []) result self.new }
+        ensures step { (came : List ℕ) → IsRead came self.old
+            → IsTaken came (byte ∷ []) result self.new }
     {
         if let Some(fault) = self.fault_past() {
             return Err(fault);
@@ -105,7 +110,8 @@ impl Tape {
     /// The words of a whole dump; else bytes are missing.
     pub fn finish(self) -> Result<Words, DumpFault>
         requires { IsTape self }
-        ensures { (bytes : List ℕ) → IsRead bytes self → MatchResult result (λ words. IsDump bytes words) (λ fault. IsMissing bytes fault) }
+        ensures { (bytes : List ℕ) → IsRead bytes self
+            → MatchResult result (λ words. IsDump bytes words) (λ fault. IsMissing bytes fault) }
     {
         let missing = DumpFault::Page(PageFault {
             offset: self.stage.offset() + self.filled as u64,

@@ -4,8 +4,8 @@ ghost use Rattle.xp_page.specs.Reading.{bytes_of_words};
 ghost use Rattle.xp_dump.specs.Grammar.{IsDump, IsInGrammar, dump_bytes};
 
 use std::alloc::{AllocError, Global};
+use xp_base::layout::WORD_BYTES;
 use xp_base::words::Words;
-use xp_page::image::WORD_BYTES;
 
 /// The first word of a dump of the older layout: the bytes `XPDUMP01`, the lowest first.
 pub const OLDER_HEADER: u64 = 3_544_421_199_813_824_600;

@@ -1,4 +1,5 @@
--- Where the words of a partition stand in a dump, in the layout that has room for eight partners and in that for 64.
+-- Where the words of a partition stand in a dump, in the layout that has room for eight partners
+-- and in that for 64.
 use Rattle.std.specs.Prelude.{ℕ, ◌+◌, ◌-◌, ◌*◌, ◌/◌, ◌%◌, ◌<◌, if◌then◌else◌, nat_lt}
 use Rattle.xp_base.specs.declared.layout.TheConstants.{PARTS, CHANNELS, BUFFERS, OPEN_WORDS, RECORD_WORDS, ARGS_WORDS, COUNTER_WORDS, QUEUE_WORDS, BUFFER_WORDS, RECORDS_AT}
 use Rattle.xp_dump_table.specs.declared.layout.TheConstants.{OLDER_PARTS}
@@ -60,7 +61,8 @@ abbrev arguments_at : ℕ → Field
 arguments_at n = Args (n / ARGS_WORDS / CHANNELS) (n / ARGS_WORDS % CHANNELS) (n % ARGS_WORDS)
 
 abbrev counter_at : ℕ → Field
-counter_at n = Counter (n / COUNTER_WORDS / CHANNELS) (n / COUNTER_WORDS % CHANNELS) (n % COUNTER_WORDS)
+counter_at n = Counter (n / COUNTER_WORDS / CHANNELS) (n / COUNTER_WORDS % CHANNELS)
+    (n % COUNTER_WORDS)
 
 abbrev entry_at : ℕ → Field
 entry_at n = Entry (n / QUEUE_WORDS / CHANNELS) (n / QUEUE_WORDS % CHANNELS) (n % QUEUE_WORDS)
@@ -69,9 +71,12 @@ abbrev high_of : Layout → ℕ → Field
 high_of l i = if nat_lt i (pool_at l) then entry_at (i - entries_at l) else Pool (i - pool_at l)
 
 abbrev middle_of : Layout → ℕ → Field
-middle_of l i = if nat_lt i (counters_at l) then arguments_at (i - args_at l) else (if nat_lt i (entries_at l) then counter_at (i - counters_at l) else high_of l i)
+middle_of l i = if nat_lt i (counters_at l) then arguments_at (i - args_at l)
+    else (if nat_lt i (entries_at l) then counter_at (i - counters_at l) else high_of l i)
 
 -- what the word at a place belongs to
 unfoldable pub field_of : Layout → ℕ → Field
 field_of l i =
-    if nat_lt i OPEN_WORDS then Open i else (if nat_lt i (flags_at l) then record_at (i - RECORDS_AT) else (if nat_lt i (args_at l) then Flag (i - flags_at l) else middle_of l i))
+    if nat_lt i OPEN_WORDS then Open i
+    else (if nat_lt i (flags_at l) then record_at (i - RECORDS_AT)
+    else (if nat_lt i (args_at l) then Flag (i - flags_at l) else middle_of l i))

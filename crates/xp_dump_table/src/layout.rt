@@ -1,4 +1,5 @@
-// The two layouts of dumps. They differ only in how many partners a partition's words have room for.
+// The two layouts of dumps. They differ only in how many partners a partition's words have room
+// for.
 ghost use Rattle.std.specs.Prelude.{◌≡◌, ◌<◌, ◌≤◌};
 ghost use Rattle.xp_dump_table.specs.Layouts.{room, flags_at, args_at, counters_at, entries_at, pool_at, words_of, field_of, place_of, IsField};
 

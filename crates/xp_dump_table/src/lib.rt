@@ -1,4 +1,5 @@
-//! What each word of a dump may be, in both layouts that dumps have: a table, apart from the reader that goes by it.
+//! What each word of a dump may be, in both layouts that dumps have: a table, apart from the reader
+//! that goes by it.
 #![tactic(auto)]
 
 pub mod layout;

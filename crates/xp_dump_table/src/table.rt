@@ -167,8 +167,8 @@ fn newer(field: Field) -> u64
     Layout::Newer.place(field) as u64
 }
 
-/// What stands in memory for a word of the older layout: the places of a record and of arguments become those of the
-/// newer layout, and all other words stay.
+/// What stands in memory for a word of the older layout: the places of a record and of arguments
+/// become those of the newer layout, and all other words stay.
 pub fn moved(field: Field, word: u64) -> u64
     requires { IsField Newer field }
     ensures { result ≡ moved_word field word }

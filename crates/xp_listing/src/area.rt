@@ -36,7 +36,8 @@ fn write_record_text(
     session: Session,
     echo: Session,
 ) -> Result<(), AllocError>
-    ensures { OnOk result (string_bytes out.new ≡ string_bytes out.old ++ record_text partner name.now session echo) }
+    ensures { OnOk result
+        (string_bytes out.new ≡ string_bytes out.old ++ record_text partner name.now session echo) }
 {
     writeln!(
         out,
@@ -59,7 +60,8 @@ fn write_record(
     partner: PartId,
 ) -> Result<(), AllocError>
     requires { owner < length words.now }
-    ensures { OnOk result (string_bytes out.new ≡ string_bytes out.old ++ record_line words.now owner partner) }
+    ensures { OnOk result
+        (string_bytes out.new ≡ string_bytes out.old ++ record_line words.now owner partner) }
 {
     let magic = words.at(owner, places::record(partner, 0));
     if magic == 0 {
@@ -73,7 +75,8 @@ fn write_record(
 /// Writes the line of each record whose magic is stored.
 pub fn write_records(out: &mut String, words: &Words, owner: PartId) -> Result<(), AllocError>
     requires { owner < length words.now }
-    ensures { OnOk result (string_bytes out.new ≡ string_bytes out.old ++ records_text words.now owner) }
+    ensures { OnOk result
+        (string_bytes out.new ≡ string_bytes out.old ++ records_text words.now owner) }
 {
     for partner in 0..PARTS {
         write_record(out, words, owner, PartId::known(partner))?;
@@ -91,7 +94,8 @@ pub struct Args {
 
 #[tactic(auto, unfolding(crate::specs::Listing::args_text))]
 fn write_args_text(out: &mut String, partner: u8, channel: u8, args: Args) -> Result<(), AllocError>
-    ensures { OnOk result (string_bytes out.new ≡ string_bytes out.old ++ args_text partner channel args) }
+    ensures { OnOk result
+        (string_bytes out.new ≡ string_bytes out.old ++ args_text partner channel args) }
 {
     let entries = args.request / REQUEST_ENTRY;
     let limit = args.request % REQUEST_ENTRY;
@@ -105,7 +109,8 @@ fn write_args_text(out: &mut String, partner: u8, channel: u8, args: Args) -> Re
 fn write_args(out: &mut String, words: &Words, owner: PartId, i: u32) -> Result<(), AllocError>
     requires owner { owner < length words.now }
     requires channel { i < AREA_CHANNELS }
-    ensures { OnOk result (string_bytes out.new ≡ string_bytes out.old ++ args_line words.now owner i) }
+    ensures { OnOk result
+        (string_bytes out.new ≡ string_bytes out.old ++ args_line words.now owner i) }
 {
     let partner = partner_of(i);
     let channel = channel_of(i);
@@ -123,7 +128,8 @@ fn write_args(out: &mut String, words: &Words, owner: PartId, i: u32) -> Result<
 /// Writes the line of the arguments of each channel of which one is stored.
 pub fn write_all_args(out: &mut String, words: &Words, owner: PartId) -> Result<(), AllocError>
     requires { owner < length words.now }
-    ensures { OnOk result (string_bytes out.new ≡ string_bytes out.old ++ all_args_text words.now owner) }
+    ensures { OnOk result
+        (string_bytes out.new ≡ string_bytes out.old ++ all_args_text words.now owner) }
 {
     for i in 0..AREA_CHANNELS {
         write_args(out, words, owner, i)?;
@@ -139,7 +145,8 @@ fn write_counters_text(
     get: u64,
     put: u64,
 ) -> Result<(), AllocError>
-    ensures { OnOk result (string_bytes out.new ≡ string_bytes out.old ++ counters_text partner channel get put) }
+    ensures { OnOk result
+        (string_bytes out.new ≡ string_bytes out.old ++ counters_text partner channel get put) }
 {
     writeln!(out, "  counters {partner} {channel} get {get} put {put}")
 }
@@ -147,7 +154,8 @@ fn write_counters_text(
 fn write_counters(out: &mut String, words: &Words, owner: PartId, i: u32) -> Result<(), AllocError>
     requires owner { owner < length words.now }
     requires channel { i < AREA_CHANNELS }
-    ensures { OnOk result (string_bytes out.new ≡ string_bytes out.old ++ counters_line words.now owner i) }
+    ensures { OnOk result
+        (string_bytes out.new ≡ string_bytes out.old ++ counters_line words.now owner i) }
 {
     let partner = partner_of(i);
     let channel = channel_of(i);
@@ -162,7 +170,8 @@ fn write_counters(out: &mut String, words: &Words, owner: PartId, i: u32) -> Res
 /// Writes the line of the counters of each channel of which one isn't 0.
 pub fn write_all_counters(out: &mut String, words: &Words, owner: PartId) -> Result<(), AllocError>
     requires { owner < length words.now }
-    ensures { OnOk result (string_bytes out.new ≡ string_bytes out.old ++ all_counters_text words.now owner) }
+    ensures { OnOk result
+        (string_bytes out.new ≡ string_bytes out.old ++ all_counters_text words.now owner) }
 {
     for i in 0..AREA_CHANNELS {
         write_counters(out, words, owner, i)?;

@@ -56,7 +56,8 @@ fn write_words(out: &mut String, i: u32, words: &[u64]) -> Result<(), AllocError
 fn write_entry(out: &mut String, words: &Words, owner: PartId, i: u32) -> Result<(), AllocError>
     requires owner { owner < length words.now }
     requires entry { i < AREA_ENTRIES }
-    ensures { OnOk result (string_bytes out.new ≡ string_bytes out.old ++ entry_line words.now owner i) }
+    ensures { OnOk result
+        (string_bytes out.new ≡ string_bytes out.old ++ entry_line words.now owner i) }
 {
     let entry = words_of_entry(words, owner, i);
     if LENGTH_MARK <= entry[0] && entry[0] <= LENGTH_MARK + LINE_BYTES as u64 {
@@ -66,10 +67,12 @@ fn write_entry(out: &mut String, words: &Words, owner: PartId, i: u32) -> Result
     }
 }
 
-/// Writes the line of each entry that was used, where the partition's version says that entries have one line.
+/// Writes the line of each entry that was used, where the partition's version says that entries
+/// have one line.
 pub fn write_entries(out: &mut String, words: &Words, owner: PartId) -> Result<(), AllocError>
     requires { owner < length words.now }
-    ensures { OnOk result (string_bytes out.new ≡ string_bytes out.old ++ entries_text words.now owner) }
+    ensures { OnOk result
+        (string_bytes out.new ≡ string_bytes out.old ++ entries_text words.now owner) }
 {
     if words.at(owner, VERSION_AT) >= LINES_VERSION {
         return Ok(());

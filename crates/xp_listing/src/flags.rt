@@ -36,7 +36,8 @@ fn write_kind(out: &mut String, flags: Flags, kind: Kind) -> Result<(), AllocErr
 
 // Writes the kinds of a set, in the order of their bits.
 fn write_kinds(out: &mut String, flags: Flags) -> Result<(), AllocError>
-    ensures { OnOk result (string_bytes out.new ≡ string_bytes out.old ++ kind_names flags all_kinds) }
+    ensures { OnOk result
+        (string_bytes out.new ≡ string_bytes out.old ++ kind_names flags all_kinds) }
 {
     let kinds = kinds();
     for kind in &kinds {
@@ -47,14 +48,16 @@ fn write_kinds(out: &mut String, flags: Flags) -> Result<(), AllocError>
 
 #[tactic(auto, unfolding(crate::specs::Listing::flags_start))]
 fn write_start(out: &mut String, partner: u8, channel: u8) -> Result<(), AllocError>
-    ensures { OnOk result (string_bytes out.new ≡ string_bytes out.old ++ flags_start partner channel) }
+    ensures { OnOk result
+        (string_bytes out.new ≡ string_bytes out.old ++ flags_start partner channel) }
 {
     write!(out, "  flags {partner} {channel}")
 }
 
 // Writes the line of some flags.
 fn write_set(out: &mut String, partner: u8, channel: u8, flags: Flags) -> Result<(), AllocError>
-    ensures { OnOk result (string_bytes out.new ≡ string_bytes out.old ++ flags_text partner channel flags) }
+    ensures { OnOk result
+        (string_bytes out.new ≡ string_bytes out.old ++ flags_text partner channel flags) }
 {
     write_start(out, partner, channel)?;
     write_kinds(out, flags)?;
@@ -64,7 +67,8 @@ fn write_set(out: &mut String, partner: u8, channel: u8, flags: Flags) -> Result
 fn write_flags(out: &mut String, words: &Words, owner: PartId, i: u32) -> Result<(), AllocError>
     requires owner { owner < length words.now }
     requires channel { i < AREA_CHANNELS }
-    ensures { OnOk result (string_bytes out.new ≡ string_bytes out.old ++ flags_line words.now owner i) }
+    ensures { OnOk result
+        (string_bytes out.new ≡ string_bytes out.old ++ flags_line words.now owner i) }
 {
     let partner = partner_of(i);
     let channel = channel_of(i);
@@ -80,7 +84,8 @@ fn write_flags(out: &mut String, words: &Words, owner: PartId, i: u32) -> Result
 /// Writes the line of the flags of each channel that has some.
 pub fn write_all_flags(out: &mut String, words: &Words, owner: PartId) -> Result<(), AllocError>
     requires { owner < length words.now }
-    ensures { OnOk result (string_bytes out.new ≡ string_bytes out.old ++ all_flags_text words.now owner) }
+    ensures { OnOk result
+        (string_bytes out.new ≡ string_bytes out.old ++ all_flags_text words.now owner) }
 {
     for i in 0..AREA_CHANNELS {
         write_flags(out, words, owner, i)?;

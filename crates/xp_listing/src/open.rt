@@ -21,7 +21,8 @@ fn write_page(
     stamp: u64,
     partitions: u64,
 ) -> Result<(), AllocError>
-    ensures { OnOk result (string_bytes out.new ≡ string_bytes out.old ++ page_text owner version stamp partitions) }
+    ensures { OnOk result
+        (string_bytes out.new ≡ string_bytes out.old ++ page_text owner version stamp partitions) }
 {
     let major = version / MINORS;
     let minor = version % MINORS;
@@ -34,7 +35,8 @@ fn write_page(
 /// Writes the line of the reserved page.
 pub fn write_partition(out: &mut String, words: &Words, owner: PartId) -> Result<(), AllocError>
     requires { owner < length words.now }
-    ensures { OnOk result (string_bytes out.new ≡ string_bytes out.old ++ partition_line words.now owner) }
+    ensures { OnOk result
+        (string_bytes out.new ≡ string_bytes out.old ++ partition_line words.now owner) }
 {
     let version = words.at(owner, VERSION_AT);
     let stamp = words.at(owner, STAMP);
@@ -85,7 +87,8 @@ fn write_variables(out: &mut String, vars: &Vars) -> Result<(), AllocError>
 /// Writes the line of the variables.
 pub fn write_vars(out: &mut String, words: &Words, owner: PartId) -> Result<(), AllocError>
     requires { owner < length words.now }
-    ensures { OnOk result (string_bytes out.new ≡ string_bytes out.old ++ vars_line words.now owner) }
+    ensures { OnOk result
+        (string_bytes out.new ≡ string_bytes out.old ++ vars_line words.now owner) }
 {
     let vars = Vars {
         beat: words.at(owner, BEAT),

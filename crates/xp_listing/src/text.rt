@@ -13,7 +13,8 @@ use xp_base::words::Words;
 // Writes the lines of a partition.
 fn write_part(out: &mut String, words: &Words, owner: PartId) -> Result<(), AllocError>
     requires { owner < length words.now }
-    ensures { OnOk result (string_bytes out.new ≡ string_bytes out.old ++ part_text words.now owner) }
+    ensures { OnOk result
+        (string_bytes out.new ≡ string_bytes out.old ++ part_text words.now owner) }
 {
     write_partition(out, words, owner)?;
     write_vars(out, words, owner)?;
@@ -24,9 +25,10 @@ fn write_part(out: &mut String, words: &Words, owner: PartId) -> Result<(), Allo
     write_entries(out, words, owner)
 }
 
-/// The listing of the words of all partitions: for each partition a line of its page, a line of its variables, and for
-/// each partner and channel the lines of what was stored. Areas for partners that there aren't are listed too. Bytes that
-/// aren't of their form, as flags with spare bits or an entry of no length, have no line.
+/// The listing of the words of all partitions: for each partition a line of its page, a line of its
+/// variables, and for each partner and channel the lines of what was stored. Areas for partners
+/// that there aren't are listed too. Bytes that aren't of their form, as flags with spare bits or
+/// an entry of no length, have no line.
 pub fn listing(alloc: Global, words: &Words) -> Result<Vec<u8>, AllocError>
     ensures { IfOk result (λ text. text.items ≡ listing_of words.now) }
 {

@@ -1,4 +1,5 @@
-// What stands in the area for a partner: its record, and the arguments and counters of each channel.
+// What stands in the area for a partner: its record, and the arguments and counters of each
+// channel.
 ghost use Rattle.std.specs.Prelude.{◌≡◌, [], ◌∷◌, refl};
 ghost use Rattle.xp_page.specs.declared.grammar.Allowed.TheVariants.{ZeroOr};
 ghost use Rattle.xp_page.specs.declared.grammar.PageCause.TheVariants.{Address};
@@ -6,11 +7,11 @@ ghost use Rattle.xp_base.specs.declared.layout.TheConstants.{RECORD_WORDS, ARGS_
 ghost use Rattle.xp_page.specs.Grammar.{row, record_table, args_table, counters_table, rows_of_counters};
 
 use crate::grammar::{Allowed, GREATEST_REASON, PageCause, PageFault, Row};
-use crate::image::{At, Image, WORD_BYTES};
+use crate::image::{At, Image};
 use crate::reading::{append, first_fault, word_at};
 use std::alloc::AllocError;
 use xp_base::ids::Channel;
-use xp_base::layout::{ARGS_WORDS, CHANNELS, COUNTER_WORDS, RECORD_WORDS};
+use xp_base::layout::{ARGS_WORDS, CHANNELS, COUNTER_WORDS, RECORD_WORDS, WORD_BYTES};
 use xp_base::places;
 
 /// The record for a partner, in the driver `struct xpc_vars_part_sn2`.
@@ -57,7 +58,8 @@ fn record_rows(at: &At) -> [Row; RECORD_WORDS as usize]
 
 impl RecordImage {
     fn to_words(&self) -> [u64; RECORD_WORDS as usize]
-        ensures { result ≡ self.now.magic ∷ self.now.session ∷ self.now.echo ∷ self.now.args ∷ self.now.counters ∷ self.now.flags ∷ self.now.channels ∷ self.now.padding ∷ [] }
+        ensures { result ≡ self.now.magic ∷ self.now.session ∷ self.now.echo ∷ self.now.args
+            ∷ self.now.counters ∷ self.now.flags ∷ self.now.channels ∷ self.now.padding ∷ [] }
     {
         [
             self.magic,
@@ -75,7 +77,8 @@ impl RecordImage {
 impl Image for RecordImage {
     ghost size = { RECORD_WORDS };
 
-    ghost words = { λ x. x.magic ∷ x.session ∷ x.echo ∷ x.args ∷ x.counters ∷ x.flags ∷ x.channels ∷ x.padding ∷ [] };
+    ghost words = { λ x. x.magic ∷ x.session ∷ x.echo ∷ x.args ∷ x.counters ∷ x.flags ∷ x.channels
+        ∷ x.padding ∷ [] };
 
     ghost table = { record_table };
 
@@ -131,7 +134,8 @@ fn args_rows(at: &At) -> [Row; ARGS_WORDS as usize]
 
 impl ArgsImage {
     fn to_words(&self) -> [u64; ARGS_WORDS as usize]
-        ensures { result ≡ self.now.request ∷ self.now.reply ∷ self.now.reason ∷ self.now.padding ∷ [] }
+        ensures { result ≡ self.now.request ∷ self.now.reply ∷ self.now.reason ∷ self.now.padding
+            ∷ [] }
     {
         [self.request, self.reply, self.reason, self.padding]
     }

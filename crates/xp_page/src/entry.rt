@@ -5,11 +5,11 @@ ghost use Rattle.xp_page.specs.Grammar.{entry_table, rows_of_entry};
 ghost use Rattle.xp_page.specs.Reading.{words_in};
 
 use crate::grammar::{Allowed, PageCause, PageFault, Row};
-use crate::image::{At, Image, WORD_BYTES};
+use crate::image::{At, Image};
 use crate::reading::{append, first_fault, word_at};
 use byteorder::{ByteOrder, LittleEndian};
 use std::alloc::AllocError;
-use xp_base::layout::LINE_WORDS;
+use xp_base::layout::{LINE_WORDS, WORD_BYTES};
 
 /// How many words of a line hold the payload, behind its length and its number.
 pub const PAYLOAD_WORDS: usize = LINE_WORDS as usize - 2;

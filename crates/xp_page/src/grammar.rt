@@ -49,8 +49,8 @@ impl fmt::Display for PageCause {
     }
 }
 
-/// The first fault of an image: the place of the first byte of the first word that isn't allowed, or of the end where
-/// the image is truncated.
+/// The first fault of an image: the place of the first byte of the first word that isn't allowed,
+/// or of the end where the image is truncated.
 #[derive(Clone, Copy, Debug, PartialEq, Eq)]
 pub struct PageFault {
     pub offset: u64,
@@ -73,9 +73,11 @@ pub enum Allowed {
     AllOf(u8),
     /// Bits of partitions below the count, without the owner's own.
     Others { count: u8, owner: u8 },
-    /// A request to open: zero, or a limit that a body may have, and 1 to 8 entries whose lines fit the queue.
+    /// A request to open: zero, or a limit that a body may have, and 1 to 8 entries whose lines fit
+    /// the queue.
     Request,
-    /// A request to open in which entries have one line: zero, or a limit that a line may have, and 1 to 8 entries.
+    /// A request to open in which entries have one line: zero, or a limit that a line may have, and
+    /// 1 to 8 entries.
     LineRequest,
     /// The first word of an entry of one line: zero, or the payload's length with its mark.
     Length,

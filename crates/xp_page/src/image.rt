@@ -8,12 +8,10 @@ ghost use Rattle.xp_page.specs.Reading.{IsReadOf, IsOf, bytes_of_words};
 use crate::grammar::PageFault;
 use std::alloc::AllocError;
 use xp_base::ids::{Channel, PartId};
+use xp_base::layout::WORD_BYTES;
 
-/// How many bytes a word has.
-pub const WORD_BYTES: usize = 8;
-
-/// Where an image stands: its first byte's offset, whose partition it is of and how many partitions there are, and the
-/// partner and the channel that it is for, where it is for one.
+/// Where an image stands: its first byte's offset, whose partition it is of and how many partitions
+/// there are, and the partner and the channel that it is for, where it is for one.
 #[derive(Clone, Copy)]
 pub struct At {
     pub offset: u64,
@@ -40,10 +38,14 @@ pub trait Image: Sized {
 
     /// Appends the image.
     fn write(&self, out: &mut Vec<u8>) -> Result<(), AllocError>
-        ensures ok { OnOk result (out.new.items ≡ out.old.items ++ bytes_of_words (words self.now)) }
+        ensures ok { OnOk result
+            (out.new.items ≡ out.old.items ++ bytes_of_words (words self.now)) }
         ensures err { OnErr result (out.new.items ≡ out.old.items) }
         // What is written is read back, whatever stands behind it.
-        ensures back { (at : Spot) (rest : List ℕ) (r : Result Self FaultOf) → IsOf (table at) (words self.now) → IsReadOf words (table at) at.offset (bytes_of_words (words self.now) ++ rest) r → r ≡ Ok self.now };
+        ensures back { (at : Spot) (rest : List ℕ) (r : Result Self FaultOf)
+            → IsOf (table at) (words self.now)
+            → IsReadOf words (table at) at.offset (bytes_of_words (words self.now) ++ rest) r
+            → r ≡ Ok self.now };
 
     /// Reads the image from the first bytes; what stands behind it isn't looked at.
     fn read(bytes: &[u8], at: At) -> Result<Self, PageFault>

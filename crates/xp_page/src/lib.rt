@@ -1,4 +1,5 @@
-//! The images of a partition's structures: their words as bytes, the lowest byte first, and exactly which words each may hold.
+//! The images of a partition's structures: their words as bytes, the lowest byte first, and exactly
+//! which words each may hold.
 #![tactic(auto)]
 
 pub mod area;

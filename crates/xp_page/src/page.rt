@@ -4,10 +4,12 @@ ghost use Rattle.xp_page.specs.declared.page.TheConstants.{PAGE_WORDS, VARIABLES
 ghost use Rattle.xp_page.specs.Grammar.{page_table, vars_table, others};
 
 use crate::grammar::{Allowed, PageCause, PageFault, Row};
-use crate::image::{At, Image, WORD_BYTES};
+use crate::image::{At, Image};
 use crate::reading::{append, first_fault, word_at};
 use std::alloc::AllocError;
-use xp_base::layout::{OPEN_WORDS, RECORDS_AT, SIGNATURE, VARIABLES_AT, VERSION_BASE, VERSION_END};
+use xp_base::layout::{
+    OPEN_WORDS, RECORDS_AT, SIGNATURE, VARIABLES_AT, VERSION_BASE, VERSION_END, WORD_BYTES,
+};
 
 /// How many words the reserved page has.
 pub const PAGE_WORDS: u32 = VARIABLES_AT;
@@ -18,7 +20,8 @@ pub const VARIABLES_WORDS: u32 = OPEN_WORDS - VARIABLES_AT;
 #[derive(Clone, Copy)]
 pub struct PageImage {
     pub signature: u64,
-    /// The major version in the bits from 4 on and the minor version below them: 3.0 to 3.15 are read.
+    /// The major version in the bits from 4 on and the minor version below them: 3.0 to 3.15 are
+    /// read.
     pub version: u64,
     /// The partition's own number.
     pub owner: u64,
@@ -53,7 +56,9 @@ pub fn page_rows(at: &At) -> [Row; PAGE_WORDS as usize]
 
 impl PageImage {
     fn to_words(&self) -> [u64; PAGE_WORDS as usize]
-        ensures { result ≡ self.now.signature ∷ self.now.version ∷ self.now.owner ∷ self.now.variables ∷ self.now.stamp ∷ self.now.partitions ∷ self.now.padding_six ∷ self.now.padding_seven ∷ [] }
+        ensures { result ≡ self.now.signature ∷ self.now.version ∷ self.now.owner
+            ∷ self.now.variables ∷ self.now.stamp ∷ self.now.partitions ∷ self.now.padding_six
+            ∷ self.now.padding_seven ∷ [] }
     {
         [
             self.signature,
@@ -71,7 +76,8 @@ impl PageImage {
 impl Image for PageImage {
     ghost size = { PAGE_WORDS };
 
-    ghost words = { λ x. x.signature ∷ x.version ∷ x.owner ∷ x.variables ∷ x.stamp ∷ x.partitions ∷ x.padding_six ∷ x.padding_seven ∷ [] };
+    ghost words = { λ x. x.signature ∷ x.version ∷ x.owner ∷ x.variables ∷ x.stamp ∷ x.partitions
+        ∷ x.padding_six ∷ x.padding_seven ∷ [] };
 
     ghost table = { page_table };
 
@@ -151,7 +157,8 @@ pub fn vars_rows(at: &At) -> [Row; VARIABLES_WORDS as usize]
 
 impl VarsImage {
     fn to_words(&self) -> [u64; VARIABLES_WORDS as usize]
-        ensures { result ≡ self.now.beat ∷ self.now.mask ∷ self.now.offline ∷ self.now.activation ∷ self.now.engaged ∷ self.now.deactivation ∷ self.now.records ∷ self.now.padding ∷ [] }
+        ensures { result ≡ self.now.beat ∷ self.now.mask ∷ self.now.offline ∷ self.now.activation
+            ∷ self.now.engaged ∷ self.now.deactivation ∷ self.now.records ∷ self.now.padding ∷ [] }
     {
         [
             self.beat,
@@ -169,7 +176,8 @@ impl VarsImage {
 impl Image for VarsImage {
     ghost size = { VARIABLES_WORDS };
 
-    ghost words = { λ x. x.beat ∷ x.mask ∷ x.offline ∷ x.activation ∷ x.engaged ∷ x.deactivation ∷ x.records ∷ x.padding ∷ [] };
+    ghost words = { λ x. x.beat ∷ x.mask ∷ x.offline ∷ x.activation ∷ x.engaged ∷ x.deactivation
+        ∷ x.records ∷ x.padding ∷ [] };
 
     ghost table = { vars_table };
 

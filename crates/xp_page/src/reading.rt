@@ -3,10 +3,9 @@ ghost use Rattle.std.specs.Prelude.{◌≡◌, ℕ, ◌+◌, ◌*◌, ◌<◌, �
 ghost use Rattle.xp_page.specs.Reading.{word_in, AllowedTo, IsFirstFault, bytes_of_words};
 
 use crate::grammar::{PageCause, PageFault, Row};
-use crate::image::WORD_BYTES;
 use byteorder::{ByteOrder, LittleEndian};
 use std::alloc::AllocError;
-use xp_base::layout::LINE_WORDS;
+use xp_base::layout::{LINE_WORDS, WORD_BYTES};
 
 /// The bytes of the longest image.
 const LONGEST_IMAGE: usize = WORD_BYTES * LINE_WORDS as usize;

@@ -1,4 +1,5 @@
-// The layout by numbers, the codes and texts of reasons, the text of payloads, and the limits of lengths.
+// The layout by numbers, the codes and texts of reasons, the text of payloads, and the limits of
+// lengths.
 use std::alloc::{AllocError, Global};
 use std::test::Fail;
 use xp_base::body::Body;

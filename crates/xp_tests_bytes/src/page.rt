@@ -1,5 +1,5 @@
-// Hostile bytes against each image's table of words, which stands here once more: the words allowed as ranges, and the cause. Each image is
-// written as it was read.
+// Hostile bytes against each image's table of words, which stands here once more: the words allowed
+// as ranges, and the cause. Each image is written as it was read.
 ghost use Rattle.std.specs.Prelude.{◌≡◌, ◌+◌, ◌*◌, ◌<◌, ◌≤◌, ◌^◌, length};
 
 use byteorder::{ByteOrder, LittleEndian};
@@ -11,7 +11,8 @@ use xp_page::{
     ArgsImage, At, CountersImage, EntryImage, Image, PageCause, PageImage, RecordImage, VarsImage,
 };
 
-/// The words allowed at a place, as ranges with both ends, and the cause of the fault where another one stands there.
+/// The words allowed at a place, as ranges with both ends, and the cause of the fault where another
+/// one stands there.
 #[derive(Clone, Copy)]
 struct Word {
     ranges: &'static [(u64, u64)],
@@ -141,7 +142,8 @@ fn written<I: Image + Drop>(alloc: Global, bytes: &[u8]) -> Result<Vec<u8>, Allo
     Ok(out)
 }
 
-/// Every length, every byte set to 255, every word one past each of its ranges, and the image itself, which is written as it was read.
+/// Every length, every byte set to 255, every word one past each of its ranges, and the image
+/// itself, which is written as it was read.
 fn check<I: Image + Drop>(
     rt: &impl Abort,
     alloc: Global,

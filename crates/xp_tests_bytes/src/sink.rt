@@ -21,7 +21,8 @@ fn sink(
     Ok(MemorySink::new(alloc, largest, numbers))
 }
 
-/// How many bytes of the text a sink takes, where it is empty, whose bytes those are, and whether that is all.
+/// How many bytes of the text a sink takes, where it is empty, whose bytes those are, and whether
+/// that is all.
 fn taken(sink: &mut MemorySink) -> (bool, usize, bool)
     requires { sink.old.faults ≡ 0 }
 {
@@ -34,7 +35,8 @@ fn taken(sink: &mut MemorySink) -> (bool, usize, bool)
     }
 }
 
-/// Pieces of 1, 7 and 64 bytes, each write failing in turn: what stands before it was written, and no more.
+/// Pieces of 1, 7 and 64 bytes, each write failing in turn: what stands before it was written, and
+/// no more.
 #[test]
 fn each_write_fails_in_turn(rt: HostRuntime) -> Result<(), Fail> {
     for (largest, calls) in [(1usize, 130u64), (7, 19), (64, 3)] {

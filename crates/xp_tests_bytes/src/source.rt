@@ -12,7 +12,8 @@ use xp_outside::standard::StdSource;
 pub const TEXT: &[u8] =
     b"The reserved page leads to the variables and to the records of the partners; each record leads to the counters and to its channels";
 
-/// A reader of the text in pieces of at most some length, of whose calls one fails; the first call has number 1.
+/// A reader of the text in pieces of at most some length, of whose calls one fails; the first call
+/// has number 1.
 #[derive(Drop)]
 struct Pieces {
     given: usize,
@@ -65,8 +66,8 @@ fn gives_from(alloc: Global, reader: &mut Pieces, place: usize) -> bool {
     is_read(rest, &TEXT[place.min(TEXT.len())..])
 }
 
-/// Pieces of 1, 7 and 64 bytes, each read failing in turn, the one at the end of the input too. The read that failed took nothing: reading
-/// again gives the rest.
+/// Pieces of 1, 7 and 64 bytes, each read failing in turn, the one at the end of the input too. The
+/// read that failed took nothing: reading again gives the rest.
 #[test]
 fn each_read_fails_in_turn(rt: HostRuntime) {
     for (largest, calls) in [(1usize, 131u64), (7, 20), (64, 4)] {

@@ -7,7 +7,7 @@ use Rattle.byteorder.specs.Endian.{little_from, little_bytes}
 use Rattle.byteorder.specs.Numbers.{little_number-reads_back}
 use Rattle.xp_base.proofs.BodyLemmas.{little_from-drop}
 use Rattle.xpnet_frame.specs.declared.header.Header.{Header}
-use Rattle.xpnet_frame.specs.declared.header.TheConstants.{HEADER_BYTES}
+use Rattle.xpnet_frame.specs.declared.header.TheConstants.{MESSAGE_HEADER_BYTES}
 use Rattle.xpnet_frame.specs.Header.{header_of, header_bytes}
 
 -- the lowest byte and what stands above it
@@ -36,7 +36,7 @@ number_bytes i (suc n) xs h low =
     let f : suc i ≡ i + 1 = omega arith in
     rw (first, more, e, rest, f, here) refl
 
-pub bytes_of-header_of : (xs : List ℕ) → ((k : ℕ) → slice_index xs k < 256) → HEADER_BYTES ≤ length xs → header_bytes (header_of xs) ++ drop HEADER_BYTES xs ≡ xs
+pub bytes_of-header_of : (xs : List ℕ) → ((k : ℕ) → slice_index xs k < 256) → MESSAGE_HEADER_BYTES ≤ length xs → header_bytes (header_of xs) ++ drop MESSAGE_HEADER_BYTES xs ≡ xs
 bytes_of-header_of xs h low =
     let last : slice_index xs 20 ∷ slice_index xs 21 ∷ drop 22 xs ≡ drop 20 xs = sym (drop_more xs 20 0 (omega arith) ∙ ap (λ (r : List ℕ). slice_index xs 20 ∷ r) (drop_more xs 21 0 (omega arith))) in
     let size = ap (λ (r : List ℕ). little_bytes 4 (little_from 16 4 xs) ++ r) last ∙ number_bytes 16 4 xs h (omega arith) in

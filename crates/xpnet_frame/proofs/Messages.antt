@@ -4,10 +4,10 @@ use Rattle.std.proofs.lemmas.Bool.Decides.{nat_tests}
 use Rattle.std.specs.Prelude.{Result, Ok, Err, IfOk, if◌then◌else◌, nat_lt}
 use Rattle.std.proofs.lemmas.List.{take_rest}
 use Rattle.xp_base.specs.declared.layout.TheConstants.{BUFFERS, BUFFER_WORDS, POOL_AT, PART_WORDS}
-use Rattle.xp_base.specs.declared.frame.TheConstants.{FRAME_BYTES}
+use Rattle.xp_base.specs.declared.frame.TheConstants.{HEADER_BYTES, FRAME_BYTES}
 use Rattle.xpnet_frame.specs.declared.header.Header.{Header}
-use Rattle.xpnet_frame.specs.declared.header.TheConstants.{HEADER_BYTES, VERSION, MAGIC}
-use Rattle.xpnet_frame.specs.declared.message.TheConstants.{LEAST_FRAME, EMBEDDED_FRAME, LEAD_IN, MOST_TAIL_OUT}
+use Rattle.xpnet_frame.specs.declared.header.TheConstants.{MESSAGE_HEADER_BYTES, MESSAGE_VERSION, MESSAGE_MAGIC}
+use Rattle.xpnet_frame.specs.declared.message.TheConstants.{EMBEDDED_FRAME, LEAD_IN, MOST_TAIL_OUT}
 use Rattle.xpnet_frame.specs.declared.message.NetMessage.{NetMessage}
 use Rattle.xpnet_frame.specs.declared.message.NetMessage.TheVariants.{Embedded, Buffered}
 use Rattle.xpnet_frame.specs.declared.message.NetFault.{NetFault}
@@ -29,7 +29,7 @@ not_chosen : (b : Bool) (r : Result NetMessage NetFault) (e : NetFault) (m : Net
 not_chosen b r e m h k = absurd (let t = k.same in cc)
 
 record Sizes (h : Header) (n : ℕ) : Type 0 where
-  pub least : LEAST_FRAME ≤ n
+  pub least : HEADER_BYTES ≤ n
   pub most : n ≤ EMBEDDED_FRAME
   pub embedded : h.embedded ≡ n
   pub size : h.size ≡ n
@@ -58,7 +58,7 @@ record Form (h : Header) (payload : List ℕ) (m : NetMessage) : Type 0 where
   pub header : h ≡ header_for m
   pub behind : payload ≡ data_of m
 
-embedded_form : (h : Header) (payload : List ℕ) (m : NetMessage) → h.version ≡ VERSION → h.magic ≡ MAGIC → embedded_message h payload ≡ Ok m → Form h payload m
+embedded_form : (h : Header) (payload : List ℕ) (m : NetMessage) → h.version ≡ MESSAGE_VERSION → h.magic ≡ MESSAGE_MAGIC → embedded_message h payload ≡ Ok m → Form h payload m
 embedded_form h payload m v g e =
     let c = chosen (is_embedded h (length payload)) _ _ m e in
     let s = embedded_sizes h (length payload) c.test in
@@ -96,7 +96,7 @@ nothing : (xs : List ℕ) → length xs ≡ 0 → xs ≡ []
 nothing [] e = refl
 nothing (x ∷ xs) e = absurd (omega arith)
 
-buffered_form : (h : Header) (payload : List ℕ) (m : NetMessage) → h.version ≡ VERSION → h.magic ≡ MAGIC → h.embedded ≡ 0 → buffered_message h (length payload) ≡ Ok m → Form h payload m
+buffered_form : (h : Header) (payload : List ℕ) (m : NetMessage) → h.version ≡ MESSAGE_VERSION → h.magic ≡ MESSAGE_MAGIC → h.embedded ≡ 0 → buffered_message h (length payload) ≡ Ok m → Form h payload m
 buffered_form h payload m v g z e =
     let c = chosen (is_buffer h.place) _ _ m e in
     let d = chosen (is_buffered h (length payload)) _ _ m c.same in
@@ -115,32 +115,32 @@ buffered_form h payload m v g z e =
 test_of : (x y : ℕ) → (x == y) ≡ true → x ≡ y
 test_of x y h = grind (arith, nat_tests)
 
-formed_form : (h : Header) (payload : List ℕ) (m : NetMessage) (b : Bool) → (h.embedded == 0) ≡ b → h.version ≡ VERSION → h.magic ≡ MAGIC → (if b then buffered_message h (length payload) else embedded_message h payload) ≡ Ok m → Form h payload m
+formed_form : (h : Header) (payload : List ℕ) (m : NetMessage) (b : Bool) → (h.embedded == 0) ≡ b → h.version ≡ MESSAGE_VERSION → h.magic ≡ MESSAGE_MAGIC → (if b then buffered_message h (length payload) else embedded_message h payload) ≡ Ok m → Form h payload m
 formed_form h payload m true t v g e = buffered_form h payload m v g (test_of h.embedded 0 t) e
 formed_form h payload m false t v g e = embedded_form h payload m v g e
 
 message_form : (h : Header) (payload : List ℕ) (m : NetMessage) → message_of h payload ≡ Ok m → Form h payload m
 message_form h payload m e =
-    let a = chosen (h.version == VERSION) _ _ m e in
-    let b = chosen (h.magic == MAGIC) _ _ m a.same in
-    formed_form h payload m (h.embedded == 0) refl (test_of h.version VERSION a.test) (test_of h.magic MAGIC b.test) b.same
+    let a = chosen (h.version == MESSAGE_VERSION) _ _ m e in
+    let b = chosen (h.magic == MESSAGE_MAGIC) _ _ m a.same in
+    formed_form h payload m (h.embedded == 0) refl (test_of h.version MESSAGE_VERSION a.test) (test_of h.magic MESSAGE_MAGIC b.test) b.same
 
 pub record IsMessageOf (bytes : List ℕ) (m : NetMessage) : Type 0 where
   pub message : IsMessage m
   pub bytes_are : bytes ≡ message_bytes m
 
 -- what is decoded is a message, and its bytes are those that were decoded
-long_enough : (bytes : List ℕ) (m : NetMessage) (b : Bool) → nat_lt (length bytes) HEADER_BYTES ≡ b → ((k : ℕ) → slice_index bytes k < 256) → (if b then Err Size else message_of (header_of bytes) (drop HEADER_BYTES bytes)) ≡ Ok m → IsMessageOf bytes m
+long_enough : (bytes : List ℕ) (m : NetMessage) (b : Bool) → nat_lt (length bytes) MESSAGE_HEADER_BYTES ≡ b → ((k : ℕ) → slice_index bytes k < 256) → (if b then Err Size else message_of (header_of bytes) (drop MESSAGE_HEADER_BYTES bytes)) ≡ Ok m → IsMessageOf bytes m
 long_enough bytes m true t small e = absurd (cc)
 long_enough bytes m false t small e =
-    let low : HEADER_BYTES ≤ length bytes = grind (arith, nat_tests) in
-    let f = message_form (header_of bytes) (drop HEADER_BYTES bytes) m e in
+    let low : MESSAGE_HEADER_BYTES ≤ length bytes = grind (arith, nat_tests) in
+    let f = message_form (header_of bytes) (drop MESSAGE_HEADER_BYTES bytes) m e in
     let same : header_bytes (header_for m) ++ data_of m ≡ bytes =
     ap (λ (h : Header). header_bytes h ++ data_of m) (sym f.header) ∙ ap (λ (d : List ℕ). header_bytes (header_of bytes) ++ d) (sym f.behind) ∙ bytes_of-header_of bytes small low in
     record { message = f.message; bytes_are = sym same }
 
 pub decoded_message : (bytes : List ℕ) (r : Result NetMessage NetFault) → ((k : ℕ) → slice_index bytes k < 256) → r ≡ decoded bytes → IfOk r (λ m. IsMessage m × (bytes ≡ message_bytes m))
-decoded_message bytes (Ok m) small e = let f = long_enough bytes m (nat_lt (length bytes) HEADER_BYTES) refl small (sym e) in (f.message, f.bytes_are)
+decoded_message bytes (Ok m) small e = let f = long_enough bytes m (nat_lt (length bytes) MESSAGE_HEADER_BYTES) refl small (sym e) in (f.message, f.bytes_are)
 decoded_message bytes (Err fault) small e = tt
 
 if_true : {A : Type 0} (b : Bool) (x y : A) → b ≡ true → (if b then x else y) ≡ x
@@ -155,13 +155,13 @@ if_false false x y h = refl
 read_back : (m : NetMessage) → IsFit (header_for m) → decoded (message_bytes m) ≡ message_of (header_for m) (data_of m)
 read_back m fit =
     let bytes : List ℕ = message_bytes m in
-    let short : nat_lt (length bytes) HEADER_BYTES ≡ false = grind (arith, nat_tests) in
-    if_false (nat_lt (length bytes) HEADER_BYTES) _ _ short ∙ ap (λ (h : Header). message_of h (data_of m)) (header_of-bytes (header_for m) (data_of m) fit)
+    let short : nat_lt (length bytes) MESSAGE_HEADER_BYTES ≡ false = grind (arith, nat_tests) in
+    if_false (nat_lt (length bytes) MESSAGE_HEADER_BYTES) _ _ short ∙ ap (λ (h : Header). message_of h (data_of m)) (header_of-bytes (header_for m) (data_of m) fit)
 
-is_embedded-for : (frame : List ℕ) → LEAST_FRAME ≤ length frame → length frame ≤ EMBEDDED_FRAME → is_embedded (header_for (Embedded frame)) (length frame) ≡ true
+is_embedded-for : (frame : List ℕ) → HEADER_BYTES ≤ length frame → length frame ≤ EMBEDDED_FRAME → is_embedded (header_for (Embedded frame)) (length frame) ≡ true
 is_embedded-for frame low high = grind (arith, nat_tests)
 
-formed_embedded : (frame : List ℕ) → LEAST_FRAME ≤ length frame → length frame ≤ EMBEDDED_FRAME → message_of (header_for (Embedded frame)) frame ≡ Ok (Embedded frame)
+formed_embedded : (frame : List ℕ) → HEADER_BYTES ≤ length frame → length frame ≤ EMBEDDED_FRAME → message_of (header_for (Embedded frame)) frame ≡ Ok (Embedded frame)
 formed_embedded frame low high =
     let some : (length frame == 0) ≡ false = grind (arith, nat_tests) in
     if_false (length frame == 0) _ _ some ∙ if_true (is_embedded (header_for (Embedded frame)) (length frame)) _ _ (is_embedded-for frame low high)
@@ -205,8 +205,8 @@ decoded_bytes (Buffered place n) h =
     read_back (Buffered place n) fit ∙ formed_buffered place n h.0 low high
 
 -- bytes whose header is whole are decoded by their header and what stands behind it
-pub decoded_from : (bytes : List ℕ) (h : Header) (r : Result NetMessage NetFault) → HEADER_BYTES ≤ length bytes → h ≡ header_of bytes → r ≡ message_of h (take (length bytes - HEADER_BYTES) (drop HEADER_BYTES bytes)) → r ≡ decoded bytes
+pub decoded_from : (bytes : List ℕ) (h : Header) (r : Result NetMessage NetFault) → MESSAGE_HEADER_BYTES ≤ length bytes → h ≡ header_of bytes → r ≡ message_of h (take (length bytes - MESSAGE_HEADER_BYTES) (drop MESSAGE_HEADER_BYTES bytes)) → r ≡ decoded bytes
 decoded_from bytes h r low e f =
-    let long : nat_lt (length bytes) HEADER_BYTES ≡ false = grind (arith, nat_tests) in
-    f ∙ ap (message_of h) (take_rest bytes HEADER_BYTES) ∙ ap (λ (g : Header). message_of g (drop HEADER_BYTES bytes)) e
-    ∙ sym (if_false (nat_lt (length bytes) HEADER_BYTES) (Err Size) (message_of (header_of bytes) (drop HEADER_BYTES bytes)) long)
+    let long : nat_lt (length bytes) MESSAGE_HEADER_BYTES ≡ false = grind (arith, nat_tests) in
+    f ∙ ap (message_of h) (take_rest bytes MESSAGE_HEADER_BYTES) ∙ ap (λ (g : Header). message_of g (drop MESSAGE_HEADER_BYTES bytes)) e
+    ∙ sym (if_false (nat_lt (length bytes) MESSAGE_HEADER_BYTES) (Err Size) (message_of (header_of bytes) (drop MESSAGE_HEADER_BYTES bytes)) long)

@@ -1,4 +1,5 @@
--- The header of a network message: where each number stands among its bytes, the lowest byte of each first.
+-- The header of a network message: where each number stands among its bytes, the lowest byte of
+-- each first.
 use Rattle.std.specs.Prelude.{ℕ, List, [], ◌∷◌, ◌++◌, slice_index}
 use Rattle.byteorder.specs.Endian.{little_from, little_bytes}
 use Rattle.xpnet_frame.specs.declared.header.Header.{Header}
@@ -19,4 +20,7 @@ header_of bytes =
 -- the bytes of a header
 abbrev pub header_bytes : Header → List ℕ
 header_bytes h =
-    little_bytes 2 h.version ++ (little_bytes 2 h.embedded ++ (little_bytes 4 h.magic ++ (little_bytes 8 h.place ++ (little_bytes 4 h.size ++ (h.lead_in ∷ h.tail_out ∷ [])))))
+    little_bytes 2 h.version
+    ++ (little_bytes 2 h.embedded
+    ++ (little_bytes 4 h.magic
+    ++ (little_bytes 8 h.place ++ (little_bytes 4 h.size ++ (h.lead_in ∷ h.tail_out ∷ [])))))

@@ -1,15 +1,16 @@
-// The header of a network message: its fields and their bytes, the lowest byte of each number first.
+// The header of a network message: its fields and their bytes, the lowest byte of each number
+// first.
 ghost use Rattle.std.specs.Prelude.{◌≡◌, ◌≤◌, length};
 ghost use Rattle.xpnet_frame.specs.Header.{header_of, header_bytes};
 
 use byteorder::{ByteOrder, LittleEndian};
 
 /// How many bytes the header has.
-pub const HEADER_BYTES: usize = 22;
+pub const MESSAGE_HEADER_BYTES: usize = 22;
 /// The version of a message.
-pub const VERSION: u16 = 1;
+pub const MESSAGE_VERSION: u16 = 1;
 /// The bytes `XNET` as a number, the lowest first.
-pub const MAGIC: u32 = 1_413_828_184;
+pub const MESSAGE_MAGIC: u32 = 1_413_828_184;
 
 /// The header of a message, in the driver the fields of `struct xpnet_message` before its data.
 #[derive(Clone, Copy)]
@@ -31,7 +32,7 @@ pub struct Header {
 impl Header {
     /// The header in the first bytes of a message.
     pub fn of_bytes(bytes: &[u8]) -> Header
-        requires { HEADER_BYTES ≤ length bytes.now }
+        requires { MESSAGE_HEADER_BYTES ≤ length bytes.now }
         ensures { result ≡ header_of bytes.now }
     {
         Header {
@@ -46,10 +47,10 @@ impl Header {
     }
 
     /// The bytes of the header.
-    pub fn to_bytes(&self) -> [u8; HEADER_BYTES]
+    pub fn to_bytes(&self) -> [u8; MESSAGE_HEADER_BYTES]
         ensures { result ≡ header_bytes self.now }
     {
-        let mut bytes = [0u8; HEADER_BYTES];
+        let mut bytes = [0u8; MESSAGE_HEADER_BYTES];
         LittleEndian::write_u16(&mut bytes[..2], self.version);
         LittleEndian::write_u16(&mut bytes[2..4], self.embedded);
         LittleEndian::write_u32(&mut bytes[4..8], self.magic);

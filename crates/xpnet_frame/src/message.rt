@@ -3,16 +3,15 @@ ghost use Rattle.std.specs.Prelude.{◌≡◌, ◌<◌, ◌≤◌, ◌+◌, ◌-
 ghost use Rattle.xpnet_frame.specs.declared.message.NetMessage.{NetMessage as Message};
 ghost use Rattle.xpnet_frame.specs.Message.{IsMessage, message_bytes, header_for, data_of, decoded, embedded_message, buffered_message, tail_for, is_buffer as is_buffer_place, message_of as message_with, is_embedded, is_buffered};
 
-use crate::header::{HEADER_BYTES, Header, MAGIC, VERSION};
+use crate::header::{Header, MESSAGE_HEADER_BYTES, MESSAGE_MAGIC, MESSAGE_VERSION};
 use xp_base::body::{Body, LINE_BYTES};
-use xp_base::frame::FRAME_BYTES;
+use xp_base::frame::{FRAME_BYTES, HEADER_BYTES};
 use xp_base::layout::{BUFFER_WORDS, PART_WORDS, POOL_AT};
 
-/// How many bytes a frame has at least: the header of an Ethernet frame.
-pub const LEAST_FRAME: usize = 14;
 /// How many bytes a frame has at most that a message carries itself.
-pub const EMBEDDED_FRAME: usize = LINE_BYTES - HEADER_BYTES;
-/// How many bytes stand before a frame in its buffer, so that what follows its Ethernet header is aligned.
+pub const EMBEDDED_FRAME: usize = LINE_BYTES - MESSAGE_HEADER_BYTES;
+/// How many bytes stand before a frame in its buffer, so that what follows its Ethernet header is
+/// aligned.
 pub const LEAD_IN: u8 = 2;
 /// How many bytes of a word stand at most behind a frame in its buffer.
 pub const MOST_TAIL_OUT: u8 = 7;
@@ -22,8 +21,8 @@ pub const MOST_TAIL_OUT: u8 = 7;
 pub enum NetMessage {
     /// The frame itself.
     Embedded { frame: Body },
-    /// The place of the first word of the buffer in which the frame stands, from its byte `LEAD_IN` on, and the frame's
-    /// length in bytes.
+    /// The place of the first word of the buffer in which the frame stands, from its byte `LEAD_IN`
+    /// on, and the frame's length in bytes.
     Buffered { place: u32, length: u16 },
 }
 
@@ -32,7 +31,8 @@ pub enum NetMessage {
 pub enum NetFault {
     Version,
     Magic,
-    /// The header isn't whole; or a buffer is named, and the sizes and the length of the message don't fit it.
+    /// The header isn't whole; or a buffer is named, and the sizes and the length of the message
+    /// don't fit it.
     Size,
     /// There are embedded bytes, and the message isn't of their form.
     Embedded,
@@ -57,9 +57,9 @@ fn header(message: &NetMessage) -> Header
         NetMessage::Embedded { frame } => {
             let length = frame.bytes().len();
             Header {
-                version: VERSION,
+                version: MESSAGE_VERSION,
                 embedded: length as u16,
-                magic: MAGIC,
+                magic: MESSAGE_MAGIC,
                 place: 0,
                 size: length as u32,
                 lead_in: 0,
@@ -69,9 +69,9 @@ fn header(message: &NetMessage) -> Header
         NetMessage::Buffered { place, length } => {
             let tail_out = tail_out(*length);
             Header {
-                version: VERSION,
+                version: MESSAGE_VERSION,
                 embedded: 0,
-                magic: MAGIC,
+                magic: MESSAGE_MAGIC,
                 place: *place as u64,
                 size: LEAD_IN as u32 + *length as u32 + tail_out as u32,
                 lead_in: LEAD_IN,
@@ -112,14 +112,14 @@ fn put(bytes: &mut [u8], at: usize, part: &[u8])
 }
 
 // A header and the bytes behind it, as one body.
-fn joined(header: &[u8; HEADER_BYTES], payload: &[u8]) -> Body
+fn joined(header: &[u8; MESSAGE_HEADER_BYTES], payload: &[u8]) -> Body
     requires { length payload.now ≤ EMBEDDED_FRAME }
     ensures { result ≡ header.now ++ payload.now }
 {
     let mut bytes = [0u8; LINE_BYTES];
     put(&mut bytes, 0, header);
-    put(&mut bytes, HEADER_BYTES, payload);
-    whole(&bytes[..HEADER_BYTES + payload.len()])
+    put(&mut bytes, MESSAGE_HEADER_BYTES, payload);
+    whole(&bytes[..MESSAGE_HEADER_BYTES + payload.len()])
 }
 
 /// The bytes of a message: an embedded frame has 14 to 90 bytes, a buffered one 91 to 1,514.
@@ -142,7 +142,7 @@ fn is_buffer(place: u64) -> bool
 fn has_embedded_form(header: &Header, length: usize) -> bool
     ensures { result ≡ is_embedded header.now length }
 {
-    LEAST_FRAME <= length
+    HEADER_BYTES <= length
         && length <= EMBEDDED_FRAME
         && header.embedded as usize == length
         && header.size as usize == length
@@ -195,9 +195,9 @@ fn buffered(header: &Header, length: usize) -> Result<NetMessage, NetFault>
 fn message_of(header: &Header, payload: &[u8]) -> Result<NetMessage, NetFault>
     ensures { result ≡ message_with header.now payload.now }
 {
-    if header.version != VERSION {
+    if header.version != MESSAGE_VERSION {
         Err(NetFault::Version)
-    } else if header.magic != MAGIC {
+    } else if header.magic != MESSAGE_MAGIC {
         Err(NetFault::Magic)
     } else if header.embedded != 0 {
         embedded(header, payload)
@@ -206,15 +206,16 @@ fn message_of(header: &Header, payload: &[u8]) -> Result<NetMessage, NetFault>
     }
 }
 
-/// The message that some bytes are. Else the first of these that fails: the header is whole, version, magic, the form of
-/// a message with embedded bytes, the place of the buffer, the sizes of a message that names a buffer.
+/// The message that some bytes are. Else the first of these that fails: the header is whole,
+/// version, magic, the form of a message with embedded bytes, the place of the buffer, the sizes of
+/// a message that names a buffer.
 pub fn decode(body: &[u8]) -> Result<NetMessage, NetFault>
     ensures message { IfOk result (λ m. IsMessage m × (body.now ≡ message_bytes m)) }
     ensures back { (m : Message) → IsMessage m → body.now ≡ message_bytes m → result ≡ Ok m }
     ensures order { result ≡ decoded body.now }
 {
-    if body.len() < HEADER_BYTES {
+    if body.len() < MESSAGE_HEADER_BYTES {
         return Err(NetFault::Size);
     }
-    message_of(&Header::of_bytes(body), &body[HEADER_BYTES..])
+    message_of(&Header::of_bytes(body), &body[MESSAGE_HEADER_BYTES..])
 }
