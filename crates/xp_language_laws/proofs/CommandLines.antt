@@ -10,7 +10,7 @@ use Rattle.xp_script.specs.declared.log.Verb.TheVariants as verbs
 use Rattle.xp_script.specs.Sizes.{longest_limit}
 use Rattle.xp_script.specs.Lawful.{IsLawfulCommand}
 use Rattle.xp_script.specs.Commands.{verb_of, verb_text}
-use Rattle.xp_forms.specs.Forms.{ends, may_end}
+use Rattle.xp_forms.specs.Forms.{Form, ends, may_end}
 use Rattle.xp_forms.specs.Forms.Form.{Choice}
 use Rattle.xp_forms.proofs.Fitting.{is_word}
 use Rattle.xp_commands.specs.Commands.{command_form}
@@ -82,12 +82,14 @@ first_is_verb (commands.Idle n) = refl
 first_is_verb commands.Offline = refl
 first_is_verb commands.Online = refl
 
--- the optional words of a send
-send_flags : (q c : ℕ) (payload : List ℕ) (wait notify : Bool) → Prints
-    (Choice (codes "nowait")
+-- the form of what follows the payload of a send
+abbrev pub flags_form : ℕ → ℕ → List ℕ → Form Command
+flags_form q c payload =
+    Choice (codes "nowait")
     (Choice (codes "notify") (ends (commands.Send q c payload false true)) (may_end (commands.Send q c payload false false)))
-    (Choice (codes "notify") (ends (commands.Send q c payload true true)) (may_end (commands.Send q c payload true false))))
-    (waits wait (notifies notify)) (commands.Send q c payload wait notify)
+    (Choice (codes "notify") (ends (commands.Send q c payload true true)) (may_end (commands.Send q c payload true false)))
+
+send_flags : (q c : ℕ) (payload : List ℕ) (wait notify : Bool) → Prints (flags_form q c payload) (waits wait (notifies notify)) (commands.Send q c payload wait notify)
 send_flags q c payload true true = other_then (codes "notify") other_word (word_then (codes "notify") notify_is_text ends_there)
 send_flags q c payload true false = nothing_then (nothing_then ends_there)
 send_flags q c payload false true = word_then (codes "nowait") nowait_is_text (word_then (codes "notify") notify_is_text ends_there)

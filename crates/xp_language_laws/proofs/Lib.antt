@@ -6,5 +6,6 @@ pub mod MadeTexts
 pub mod SettingLines
 pub mod ScriptLines
 pub mod WholeTexts
+pub mod LineSteps
 pub mod PokeLines
 pub mod DraftTotals

@@ -1,5 +1,5 @@
 -- A scenario has pokes exactly where a line of its text begins with `poke`.
-use Rattle.std.proofs.Common.{◌≡◌, ◌≢◌, ℕ, ◌+◌, ◌<◌, Bool, true, false, cond, ltb, List, [], ◌∷◌, ◌++◌, length, refl, sym, ap, subst, ◌∙◌, arith, Option, Some, None, Result, Ok, Err}
+use Rattle.std.proofs.Common.{◌≡◌, ◌≢◌, ℕ, ◌+◌, ◌<◌, Bool, true, false, cond, ltb, inl, inr, List, [], ◌∷◌, ◌++◌, length, refl, sym, ap, subst, ◌∙◌, arith, Option, Some, None, Ok}
 use Rattle.std.specs.Prelude.{codes, bytes_eq, min}
 use Rattle.std.proofs.lemmas.List.{length-append}
 use Rattle.std.proofs.lemmas.Slice.Eq.{bytes_eq-Decides}
@@ -11,13 +11,7 @@ use Rattle.xp_script.specs.declared.setting.Poke.{Poke}
 use Rattle.xp_script.specs.Totals.{command_bytes}
 use Rattle.xp_text.specs.declared.parts.TheConstants.{LINE_END}
 use Rattle.xp_text.specs.Lines.{Word, Line, parts_of, line_of, after_word, accepted_from, accepted}
-use Rattle.xp_forms.specs.declared.fault.LineCause.TheVariants as causes
-use Rattle.xp_forms.specs.declared.fault.WordFault.{WordFault}
-use Rattle.xp_forms.specs.Forms.{◌>>=◌, bad, next_word, is_ascii, reads}
 use Rattle.xp_forms.specs.Values.{SaysOnly}
-use Rattle.xp_forms.proofs.Fitting.{left}
-use Rattle.xp_forms.proofs.Valued.{reads_only}
-use Rattle.xp_commands.specs.Commands.{command_form}
 use Rattle.xp_commands.specs.Verbs.{verb_in}
 use Rattle.xp_settings.specs.declared.word.SettingWord.{SettingWord}
 use Rattle.xp_settings.specs.declared.word.SettingWord.TheVariants as words
@@ -28,14 +22,12 @@ use Rattle.xp_scenario.specs.declared.head.Head.{Head}
 use Rattle.xp_scenario.specs.declared.head.Head.TheVariants as heads
 use Rattle.xp_scenario.specs.declared.head.PlanWord.{PlanWord}
 use Rattle.xp_scenario.specs.declared.draft.Draft.{Draft}
-use Rattle.xp_scenario.specs.declared.draft.Section.{Section}
-use Rattle.xp_scenario.specs.declared.draft.Section.TheVariants as sections
 use Rattle.xp_scenario.specs.Heads.{or_else, plan_word_in, section_word_in, head_in}
-use Rattle.xp_scenario.specs.Plans.{plan_form}
 use Rattle.xp_scenario.specs.Scripts.{command_added}
-use Rattle.xp_scenario.specs.Drafts.{fresh, with_one_setting, owner_of, with_command, with_plan, header_form, count_form, script_form, schedule_form, said, in_section, by_head, after_head, words_say, line_says}
+use Rattle.xp_scenario.specs.Drafts.{fresh, with_command, line_says}
 use Rattle.xp_scenario.specs.Pokes.{placed, poke_from, poke_in}
 use Rattle.xp_scenario.specs.Spelled.{Lead, Spells}
+use Rattle.xp_language_laws.proofs.LineSteps.{HeadStep, LineStep, fits_only, line_step}
 use Rattle.xp_language_laws.proofs.MadeTexts.{setting_head}
 
 -- ---- which words are `poke`
@@ -112,10 +104,6 @@ abbrev HeadSays : Head → Settings → Settings → Type 0
 HeadSays (heads.Setting w) s t = Grows w s t
 HeadSays _ s t = Stay s t
 
-said_ok : {A : Type 0} (add : A → Draft → Draft) (d e : Draft) (r : Result A WordFault) → said add d r ≡ Ok e → (x : A) × (r ≡ Ok x) × (add x d ≡ e)
-said_ok add d e (Ok x) h = (x, refl, cc)
-said_ok add d e (Err f) h = absurd cc
-
 command_stays : (c : Command) (d : Draft) → Stay d.settings (with_command c d).settings
 command_stays c d = go (ltb COMMAND_LIMIT d.commands)
   where
@@ -123,23 +111,19 @@ command_stays c d = go (ltb COMMAND_LIMIT d.commands)
     go true = refl
     go false = refl
 
-in_step : (s : Section) (head : Head) (d e : Draft) (ws : List Word) (end last : ℕ) → in_section s head d (left ws end last) ≡ Ok e → HeadSays head d.settings e.settings
-in_step sections.Counting heads.Partitions d e ws end last h = reads_only (λ x. Stay d.settings x.settings) (count_form d) ws end last e (λ n hn _. refl) h
-in_step sections.Settings (heads.Setting w) d e ws end last h =
-    let a = said_ok with_one_setting d e (reads (setting_form d.count d.settings w) (left ws end last)) h in
-    let g = reads_only (λ x. Grows w d.settings (with_setting x d.settings)) (setting_form d.count d.settings w) ws end last a.0 (grows d.count d.settings w) a.1 in
-    subst (λ (x : Draft). Grows w d.settings x.settings) a.2 g
-in_step sections.Settings heads.Script d e ws end last h = reads_only (λ x. Stay d.settings x.settings) (script_form d) ws end last e (λ p hp _. refl) h
-in_step sections.Settings heads.Schedule d e ws end last h = reads_only (λ x. Stay d.settings x.settings) (schedule_form d) ws end last e refl h
-in_step sections.Scripts heads.Script d e ws end last h = reads_only (λ x. Stay d.settings x.settings) (script_form d) ws end last e (λ p hp _. refl) h
-in_step sections.Scripts (heads.Command v) d e ws end last h =
-    let a = said_ok with_command d e (reads (command_form (owner_of d) v) (left ws end last)) h in
-    subst (λ (x : Draft). Stay d.settings x.settings) a.2 (command_stays a.0 d)
-in_step sections.Scripts heads.Schedule d e ws end last h = reads_only (λ x. Stay d.settings x.settings) (schedule_form d) ws end last e refl h
-in_step sections.Schedule (heads.Plan w) d e ws end last h =
-    let a = said_ok with_plan d e (reads (plan_form d.count w) (left ws end last)) h in
-    subst (λ (x : Draft). Stay d.settings x.settings) a.2 refl
-in_step s head d e ws end last h = absurd cc
+abbrev pokes : Draft → List Poke
+pokes d = d.settings.pokes
+
+head_says : (head : Head) (d : Draft) (ws : List Word) (e : Draft) → HeadStep head d ws e → HeadSays head d.settings e.settings
+head_says heads.Xpsim d ws e h = absurd h
+head_says heads.Partitions d ws e h = ap pokes h.2
+head_says (heads.Setting w) d ws e h =
+    subst (λ (x : Draft). Grows w d.settings x.settings) (sym h.is)
+    (fits_only (λ x. Grows w d.settings (with_setting x d.settings)) (setting_form d.count d.settings w) ws h.value (grows d.count d.settings w) h.fits)
+head_says heads.Script d ws e h = ap pokes h.is
+head_says (heads.Command v) d ws e h = ap pokes h.is ∙ command_stays h.value d
+head_says heads.Schedule d ws e h = ap pokes h.1
+head_says (heads.Plan w) d ws e h = ap pokes h.is
 
 -- by whether the first word is `poke`
 abbrev Told : Bool → Settings → Settings → Type 0
@@ -165,48 +149,26 @@ head_told w false heads.Schedule s t e f h = h
 head_told w false (heads.Command v) s t e f h = h
 head_told w false (heads.Plan p) s t e f h = h
 
-head_step : (w : List ℕ) (o : Option Head) (d e : Draft) (ws : List Word) (end last : ℕ) → head_in w ≡ o → by_head o d (left ws end last) ≡ Ok e → Told (bytes_eq w (codes "poke")) d.settings e.settings
-head_step w None d e ws end last f h = absurd cc
-head_step w (Some head) d e ws end last f h = head_told w (bytes_eq w (codes "poke")) head d.settings e.settings refl f (in_step d.section head d e ws end last h)
-
-no_xpsim : (w : List ℕ) → bytes_eq w (codes "xpsim") ≡ true → bytes_eq w (codes "poke") ≡ false
-no_xpsim w e = ap (λ (v : List ℕ). bytes_eq v (codes "poke")) ((bytes_eq-Decides w (codes "xpsim")).0 e)
-
-after_step : (s : Section) (w : List ℕ) (d e : Draft) (ws : List Word) (end last : ℕ) → after_head s w d (left ws end last) ≡ Ok e → Told (bytes_eq w (codes "poke")) d.settings e.settings
-after_step sections.Opening w d e ws end last h = go (bytes_eq w (codes "xpsim")) refl h
-  where
-    go : (b : Bool) → bytes_eq w (codes "xpsim") ≡ b → cond b (reads (header_form d) (left ws end last)) (bad last causes.Header) ≡ Ok e → Told (bytes_eq w (codes "poke")) d.settings e.settings
-    go true f t = subst (λ (b : Bool). Told b d.settings e.settings) (sym (no_xpsim w f)) (reads_only (λ x. Stay d.settings x.settings) (header_form d) ws end last e (refl, tt) t)
-    go false f t = absurd cc
-after_step sections.Counting w d e ws end last h = head_step w (head_in w) d e ws end last refl h
-after_step sections.Settings w d e ws end last h = head_step w (head_in w) d e ws end last refl h
-after_step sections.Scripts w d e ws end last h = head_step w (head_in w) d e ws end last refl h
-after_step sections.Schedule w d e ws end last h = head_step w (head_in w) d e ws end last refl h
-
 -- by the line's place, where it begins with `poke`
 abbrev LineTold : Option Line → Draft → Draft → Type 0
 LineTold None d e = Stay d.settings e.settings
 LineTold (Some line) d e = 0 < length e.settings.pokes
 
-abbrev first_word : Bool → List ℕ → Line → ℕ → Result (List ℕ × Line) WordFault
-first_word b bytes line column = cond b (Ok (bytes, line)) (bad column causes.Word)
-
-words_told : (ws : List Word) (d e : Draft) (end last : ℕ) → words_say ws d (left ws end last) ≡ Ok e → LineTold (accepted_from (codes "poke") (left ws end last) ws) d e
-unfolding next_word
-words_told [] d e end last h = let same : d ≡ e = cc in ap (λ (x : Draft). x.settings.pokes) (sym same)
-words_told (w ∷ ws) d e end last h = go (is_ascii w.bytes) h
+words_told : (ws : List Word) (line : Line) (d e : Draft) → LineStep d ws e → LineTold (accepted_from (codes "poke") line ws) d e
+words_told [] line d e h = ap pokes h
+words_told (w ∷ ws) line d e h = by_test (bytes_eq w.bytes (codes "poke")) (after_word line ws w.column) (by_step h)
   where
-    by_test : (b : Bool) (line : Line) → Told b d.settings e.settings → LineTold (cond b (Some line) None) d e
-    by_test true line t = t
-    by_test false line t = t
+    by_test : (b : Bool) (after : Line) → Told b d.settings e.settings → LineTold (cond b (Some after) None) d e
+    by_test true after t = t
+    by_test false after t = t
 
-    go : (b : Bool) → (first_word b w.bytes (left ws end w.column) w.column >>= λ x. after_head d.section x.0 d x.1) ≡ Ok e → LineTold (accepted_from (codes "poke") (left (w ∷ ws) end last) (w ∷ ws)) d e
-    go true t = by_test (bytes_eq w.bytes (codes "poke")) (after_word (left (w ∷ ws) end last) ws w.column) (after_step d.section w.bytes d e ws end w.column t)
-    go false t = absurd cc
+    by_step : LineStep d (w ∷ ws) e → Told (bytes_eq w.bytes (codes "poke")) d.settings e.settings
+    by_step (inl (q, is_xpsim, is)) = subst (λ (v : List ℕ). Told (bytes_eq v (codes "poke")) d.settings e.settings) (sym is_xpsim) (ap pokes is)
+    by_step (inr (head, f, step)) = head_told w.bytes (bytes_eq w.bytes (codes "poke")) head d.settings e.settings refl f (head_says head d ws e step)
 
 line_told : (d e : Draft) (bytes : List ℕ) → line_says d (line_of bytes) ≡ Ok e → LineTold (accepted (codes "poke") (line_of bytes)) d e
-unfolding line_says accepted
-line_told d e bytes h = words_told (line_of bytes).words d e (line_of bytes).end (line_of bytes).last h
+unfolding accepted
+line_told d e bytes h = words_told (line_of bytes).words (line_of bytes) d e (line_step d e bytes h)
 
 -- ---- the lines of a text
 
