@@ -229,8 +229,8 @@ module _ (s : Scenario) (law : IsLawful s) (h : List Event) (m : Memory) (given 
         let f' : Free (point ++ Turned a u ∷ []) = subst Free (sym (longer (Turned a u ∷ []))) f in
         elim (cases_eq a q) [
           | inl e ↦
-            let moved : (peer_of (after_turn (part_of s q) (state_at s point q) u) p).engage.area ≡ Off = ap (λ (st : State). (peer_of st p).engage.area) (sym (own_turn s point q u)) ∙ ap (λ (j : ℕ). (engage_at s (point ++ Turned j u ∷ []) q p).area) (sym e) ∙ f' in
-            turn_stays (part_of s q) p (memory_by (opening s) point) (state_at s point q) u bit (subst (λ (j : ℕ). May (part_of s j) (state_at s point j) u) e k.may) k.answered n moved
+              let moved : (peer_of (after_turn (part_of s q) (state_at s point q) u) p).engage.area ≡ Off = ap (λ (st : State). (peer_of st p).engage.area) (sym (own_turn s point q u)) ∙ ap (λ (j : ℕ). (engage_at s (point ++ Turned j u ∷ []) q p).area) (sym e) ∙ f' in
+              turn_stays (part_of s q) p (memory_by (opening s) point) (state_at s point q) u bit (subst (λ (j : ℕ). May (part_of s j) (state_at s point j) u) e k.may) k.answered n moved
           | inr o ↦ n (ap (λ (st : State). (peer_of st p).engage.area) (sym (other_turn s point a q u o)) ∙ f')
         ]
 

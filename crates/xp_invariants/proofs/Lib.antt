@@ -8,3 +8,6 @@ pub mod OldBits
 pub mod Guests
 pub mod Rising
 pub mod SessionsKept
+pub mod FlagsKept
+pub mod Counted
+pub mod LinesKept

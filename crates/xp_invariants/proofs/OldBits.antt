@@ -88,9 +88,11 @@ module _ (s : Scenario) (law : IsLawful s) (p q n v : ℕ) (lp : p < s.count) (l
     rule_here (Link k c m) can = (i.old.0, λ b up. absurd (up can.0))
     rule_here (ForPeer k ZeroMagic) can = (i.old.0, λ b up. at_peer (λ (x : Peer). Said x.engage.cleared (bit_at (w q (Open ENGAGED)) p)) st.peers k _ q (λ e. subst (λ (j : ℕ). Said (peer_of st j).engage.cleared (bit_at (w q (Open ENGAGED)) p)) e (i.old.1 b up)) (i.old.1 b up))
     rule_here (ForPeer k ClearOldBit) can =
-        let w' = does_rule su st (ForPeer k ClearOldBit) w in
-        (i.old.0, λ b up. peer_cases (λ (j : ℕ) (x : Peer). Said x.engage.cleared (bit_at (w' j (Open ENGAGED)) p)) st.peers k _ q (i.standing.clear.met.all p lp).partners can.1.0.low (λ c. absurd (cc))
-        (λ o c. ap (λ (z : Six). z.bit) (peer_else s (lawful s law) w σ p lp i.standing.clear.met k ClearOldBit q lq (λ e. d (sym e)) o) ∙ i.old.1 b up c))
+        let w' = does_rule su st (ForPeer k ClearOldBit) w in (
+          i.old.0,
+          λ b up. peer_cases (λ (j : ℕ) (x : Peer). Said x.engage.cleared (bit_at (w' j (Open ENGAGED)) p)) st.peers k _ q (i.standing.clear.met.all p lp).partners can.1.0.low (λ c. absurd (cc))
+              (λ o c. ap (λ (z : Six). z.bit) (peer_else s (lawful s law) w σ p lp i.standing.clear.met k ClearOldBit q lq (λ e. d (sym e)) o) ∙ i.old.1 b up c),
+        )
     rule_here (ForPeer k AskActivation) can = (i.old.0, λ b up. absurd (up can.0))
     rule_here (ForPeer k TakeFlags) can = (i.old.0, λ b up. absurd (up can.0))
     rule_here (ForPeer k CloseArea) can = (i.old.0, λ b up. absurd (up can.0))

@@ -38,16 +38,16 @@ pub record IsPlaced (sent word taken got : Bool) : Type 0 where
 
 -- a partner waits for a contact: its area is open under the session of the contact
 pub record IsAwaited (s : Scenario) (h : List Event) (p q : ℕ) (k : Contact) : Type 0 where
-  pub open : (peer_of (state_at s h q) p).engage.area ≡ Ready
+  pub ready : (peer_of (state_at s h q) p).engage.area ≡ Ready
   pub alone : (peer_of (state_at s h q) p).contact ≡ None
   pub session : session_now (state_at s h q).stamp (peer_of (state_at s h q) p).engage ≡ k.theirs
 
 -- an argument is that of its flag: the size for which the open request asks, the place of the own
 -- entries, the code of the reason
 pub record HasArguments (e : End) (request reply code place : ℕ) : Type 0 where
-  pub request_word : e.shake.sent.open_request ≡ true → request ≡ request_word (size_sent e)
-  pub reply_word : e.shake.sent.open_reply ≡ true → reply ≡ place
-  pub code_word : e.shake.sent.close_request ≡ true → code ≡ code_of e.shake.reason
+  pub asked : e.shake.sent.open_request ≡ true → request ≡ request_word (size_sent e)
+  pub replied : e.shake.sent.open_reply ≡ true → reply ≡ place
+  pub coded : e.shake.sent.close_request ≡ true → code ≡ code_of e.shake.reason
 
 -- of p's end of a line, which sends, and q's, which gets
 pub record FlagQueue (s : Scenario) (h : List Event) : Type 0 where
@@ -84,8 +84,8 @@ pub record FlagQueue (s : Scenario) (h : List Event) : Type 0 where
   pub awaited : (p q c : ℕ) (k : Kind) (m : Contact) → IsLine s p q c →
       (end_at s h p q c).shake.meet ≡ Some m → IsAwaited s h p q m → IsControl k →
       has k (end_at s h p q c).shake.sent ≡ has k (flags_set s h p q c)
-  -- the argument words of an end in contact are those of the flags that it has sent, as long as its
-  -- partner is in contact too, or waits for it
+  -- the argument words of an end in contact are those of the flags that it has sent, whatever has
+  -- become of its partner
   pub arguments : (p q c : ℕ) (m : Contact) → IsLine s p q c →
       (end_at s h p q c).shake.meet ≡ Some m →
       HasArguments (end_at s h p q c) (word_after s h p (Args q c 0))

@@ -7,6 +7,8 @@ ghost use Rattle.xp_base.specs.History.{Event};
 ghost use Rattle.xp_base.specs.Memory.{Memory};
 ghost use Rattle.xp_invariants.specs.Flags.{FlagQueue};
 ghost use Rattle.xp_invariants.specs.Hosts.{GuestAndHost};
+ghost use Rattle.xp_invariants.specs.Limits.{Limits};
+ghost use Rattle.xp_invariants.specs.Lines.{Lines};
 ghost use Rattle.xp_invariants.specs.Sessions.{Sessions};
 ghost use Rattle.xp_protocol.specs.Reached.{ReachedWords};
 ghost use Rattle.xp_script.specs.Lawful.{IsLawful};
@@ -31,4 +33,19 @@ pub fn sessions_rise()
 pub fn flags_in_one_place()
     ensures { (s : Scenario) → IsLawful s →
         (h : List Event) (m : Memory) → ReachedWords s h m → FlagQueue s h }
+{}
+
+/// Whatever history the rules reach in a lawful scenario: in each direction of a connection the
+/// counters of both ends follow each other, and the entries from the last get up to put hold their
+/// messages while they may be copied.
+pub fn lines_hold()
+    ensures { (s : Scenario) → IsLawful s →
+        (h : List Event) (m : Memory) → ReachedWords s h m → Lines s h }
+{}
+
+/// Whatever history the rules reach in a lawful scenario: both ends of a connection have one limit,
+/// and so as many lines an entry, and each reads the other's queue as long as it is.
+pub fn limits_agree()
+    ensures { (s : Scenario) → IsLawful s →
+        (h : List Event) (m : Memory) → ReachedWords s h m → Limits s h }
 {}

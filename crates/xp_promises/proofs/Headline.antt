@@ -150,7 +150,7 @@ record Lasting (rs ss : List Recorded) : Type 0 where
   apart : Apart (names rs)
 
 -- the partner's record of a record's connection, and so the promise for each record
-other_accepted : (r : Recorded) (xs : List Recorded) → (by_name (exchanged (name_of r)) xs).accepted ≡ accepted_of (first_named r xs)
+pub other_accepted : (r : Recorded) (xs : List Recorded) → (by_name (exchanged (name_of r)) xs).accepted ≡ accepted_of (first_named r xs)
 other_accepted r [] = refl
 other_accepted r (x ∷ xs) = by (is_name (name_of x) (exchanged (name_of r))) (other_accepted r xs) where
   by : (b : Bool) → (by_name (exchanged (name_of r)) xs).accepted ≡ accepted_of (first_named r xs) → (cond b x (by_name (exchanged (name_of r)) xs)).accepted ≡ accepted_of (cond b (Some x) (first_named r xs))

@@ -49,4 +49,4 @@ mod Uses
 mod Witness
 mod Widest
 mod RunWitness
-mod Versions
+pub mod Versions
