@@ -1,14 +1,3 @@
-mod Direction
-mod Ring
-mod FlagEnds
-mod FlagKept
-pub mod Books
-mod Ways
-mod Rests
-mod Fields
-pub mod Lines
-mod FlagUse
-mod Arguments
 pub mod Direction
 pub mod Ring
 pub mod FlagEnds
@@ -35,16 +24,9 @@ pub mod Notices
 pub mod Own
 pub mod Owns
 pub mod Before
-mod Guard
-pub mod Reuses
-pub mod NoticesKept
-mod Notices
-pub mod Own
-pub mod Owns
-pub mod Before
 pub mod Guard
 pub mod Reuses
-mod NoticesKept
+pub mod NoticesKept
 mod Uses
 mod Witness
 mod Widest
