@@ -55,8 +55,8 @@ take_at e =
 abbrev pub is_polling : Pulling → Bool
 is_polling x = is_some x.take && not (has_entry x)
 
--- a copy of the counters that goes on is made to its end. Another one is begun where it is owed or a
--- take polls, by the first two steps of an errand of three: so it is over with the errand
+-- a copy of the counters that goes on is made to its end. Another one is begun where it is owed or
+-- a take polls, by the first two steps of an errand of three: so it is over with the errand
 abbrev pub counters_at : ℕ → End → Option LinkRule
 counters_at used e =
     step_if (is_connected e && (is_some e.sides.pull.counters
@@ -128,9 +128,9 @@ control_at e = control_by (control_owed e) e
 abbrev pub control_signal : End → Option LinkRule
 control_signal e = or_else (argument_at e) (control_at e)
 
--- what is owed to the partner. In the first two turns of the errand it is told by a message request,
--- and get is stored; then come the others. So releases, which could make a store owed in every turn,
--- keep no flag waiting, and a flag keeps no message request waiting
+-- what is owed to the partner. In the first two turns of the errand it is told by a message
+-- request, and get is stored; then come the others. So releases, which could make a store owed in
+-- every turn, keep no flag waiting, and a flag keeps no message request waiting
 abbrev pub signal_step : ℕ → End → Option LinkRule
 signal_step used e =
     if nat_lt used 2 then or_else (message_at e) (or_else (store_at e) (control_signal e))

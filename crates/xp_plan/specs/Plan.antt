@@ -43,8 +43,8 @@ errands_of agendas.Joined =
 
 -- how many turns of a visit an errand may take. A look has five loads. A memory is prepared by 35
 -- steps. A record has eight words, and up to seven of one that was cut come first. Of a channel a
--- message is requested, get is stored, up to three arguments are loaded, and one flag is sent behind
--- up to three words
+-- message is requested, get is stored, up to three arguments are loaded, and one flag is sent
+-- behind up to three words
 abbrev pub quota : Errand → ℕ
 quota errands.Boot = VISIT_TURNS
 quota errands.Mask = 1

@@ -1,0 +1,10 @@
+pub mod Places
+pub mod Asked
+pub mod Throughout
+pub mod Frame
+pub mod Keeps
+pub mod Made
+pub mod Signals
+pub mod Polls
+pub mod Copies
+pub mod Serving

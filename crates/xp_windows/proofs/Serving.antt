@@ -1,0 +1,106 @@
+-- In each window what is owed is served.
+use Rattle.std.proofs.Common.{◌≡◌, ℕ, ◌+◌, ◌*◌, ◌<◌, ◌≤◌, Bool, true, false, List, [], ◌∷◌, ◌++◌, length, refl, sym, subst, arith, inl}
+use Rattle.std.specs.Prelude.{IsSome, nat_lt, nat_eq, ◌||◌, if◌then◌else◌}
+use Rattle.std.proofs.lemmas.Bool.{or_left}
+use Rattle.std.proofs.lemmas.Bool.Decides.{nat_tests}
+use Rattle.xp_base.specs.declared.layout.TheConstants.{PARTS, WINDOW_PARTS, WINDOW_TURNS, WINDOW_TURNS_EACH}
+use Rattle.xp_base.specs.Windows.{window_of}
+use Rattle.xp_base.specs.History.{Turn}
+use Rattle.xp_script.specs.declared.part.ScenarioPart.{ScenarioPart}
+use Rattle.xp_rounds.specs.declared.rounds.TheConstants.{VISIT_TURNS}
+use Rattle.xp_rounds.specs.Visit.{Visit, planned}
+use Rattle.xp_rounds.proofs.Sources.{Paced, planned_paced}
+use Rattle.xp_protocol.specs.Parts.{IsLawfulPart, script_in}
+use Rattle.xp_protocol.specs.State.{State, Up}
+use Rattle.xp_protocol.specs.Acts.{due}
+use Rattle.xp_protocol.specs.Runs.{Runs, RunsFrom, start, after_turn, state_after}
+use Rattle.xp_plan.specs.declared.errand.Errand.{Errand}
+use Rattle.xp_plan.specs.Plan.{plan_of, IsVisit, first_visit}
+use Rattle.xp_plan.proofs.Visiting.{first_is, next_is}
+use Rattle.xp_windows.specs.Windows.{middle, begins, answers, IsUp, SomeTurn, Throughout, Owed, Windows}
+use Rattle.xp_windows.specs.Visited.{visit_after, FollowsFrom, ArePrompt, Visited}
+use Rattle.xp_windows.proofs.Places.{Turns, follows_plan, first_holds, placed, peer_placed}
+use Rattle.xp_windows.proofs.Throughout.{activations_taken, deactivations_taken, engagements_read, flags_taken, sends_made}
+use Rattle.xp_windows.proofs.Signals.{requests_made, gets_stored}
+use Rattle.xp_windows.proofs.Copies.{whole, copies_made}
+
+-- turns that follow the plan, from some visit on
+record Going (s : ScenarioPart) (v : Visit Errand) (st : State) (ts : List Turn) : Type 0 where
+  visit : IsVisit s v
+  paced : Paced (plan_of s) (whole s) v
+  runs : RunsFrom s st ts
+  follows : FollowsFrom s v st ts
+  prompt : ArePrompt s st ts
+
+-- the first visit of a boot is paced
+fresh_paced : (s : ScenarioPart) → Paced (plan_of s) (whole s) (first_visit s)
+fresh_paced s = record { begun = λ m. absurd (omega (arith, m)); low = λ m. absurd (omega (arith, m)) }
+
+visit_on : (s : ScenarioPart) (v : Visit Errand) (st : State) (t : Turn) → IsLawfulPart s → IsVisit s v → IsVisit s (visit_after s v st t)
+visit_on s v st t l h = by (nat_eq (after_turn s st t).clock.boots st.clock.boots) where
+  by : (b : Bool) → IsVisit s (if b then (planned (plan_of s) v (middle s st t)).visit else first_visit s)
+  by true = next_is s (middle s st t) v h
+  by false = first_is s l
+
+paced_on : (s : ScenarioPart) (v : Visit Errand) (st : State) (t : Turn) → Paced (plan_of s) (whole s) v → Paced (plan_of s) (whole s) (visit_after s v st t)
+paced_on s v st t h = by (nat_eq (after_turn s st t).clock.boots st.clock.boots) where
+  by : (b : Bool) → Paced (plan_of s) (whole s) (if b then (planned (plan_of s) v (middle s st t)).visit else first_visit s)
+  by true = planned_paced (plan_of s) (whole s) v (middle s st t) h
+  by false = fresh_paced s
+
+next : (s : ScenarioPart) (v : Visit Errand) (st : State) (t : Turn) (ts : List Turn) → IsLawfulPart s → Going s v st (t ∷ ts) → Going s (visit_after s v st t) (after_turn s st t) ts
+next s v st t ts l x = record { visit = visit_on s v st t l x.visit; paced = paced_on s v st t x.paced; runs = x.runs.1; follows = x.follows.1; prompt = x.prompt.1 }
+
+cut : (s : ScenarioPart) (v : Visit Errand) (st : State) (window after : List Turn) → IsLawfulPart s → Going s v st (window ++ after) → Going s v st window
+cut s v st [] after l x = record { visit = x.visit; paced = x.paced; runs = tt; follows = tt; prompt = tt }
+cut s v st (t ∷ ts) after l x =
+    let y = cut s (visit_after s v st t) (after_turn s st t) ts after l (next s v st t (ts ++ after) l x) in
+    record { visit = x.visit; paced = x.paced; runs = (x.runs.0, y.runs); follows = (x.follows.0, y.follows); prompt = (x.prompt.0, y.prompt) }
+
+record Window (s : ScenarioPart) (st : State) (window : List Turn) : Type 0 where
+  visit : Visit Errand
+  turns : Going s visit st window
+
+reach : (s : ScenarioPart) (v : Visit Errand) (st : State) (before window after : List Turn) → IsLawfulPart s → Going s v st (before ++ (window ++ after)) → Window s (state_after s st before) window
+reach s v st [] window after l x = record { visit = v; turns = cut s v st window after l x }
+reach s v st (t ∷ ts) window after l x = reach s (visit_after s v st t) (after_turn s st t) ts window after l (next s v st t (ts ++ (window ++ after)) l x)
+
+first_begins : (s : ScenarioPart) (st : State) (window : List Turn) → 0 < length window → st.life ≡ Up → ArePrompt s st window → st.script.doing ≡ false → st.script.begun < length (script_in s st.clock.boots) → SomeTurn (λ x t. (begins t.before || begins t.after) ≡ true) s st window
+first_begins s st [] some up p a b = absurd (omega (arith, some))
+first_begins s st (t ∷ ts) some up p a b = inl (or_left (begins t.before) (begins t.after) (p.0.begins up a b))
+
+first_answers : (s : ScenarioPart) (st : State) (window : List Turn) → 0 < length window → ArePrompt s st window → IsSome (due s st) → SomeTurn (λ x t. (answers t.before || answers t.after) ≡ true) s st window
+first_answers s st [] some p h = absurd (omega (arith, some))
+first_answers s st (t ∷ ts) some p h = inl (p.0.answers h)
+
+owed : (s : ScenarioPart) (boot : ℕ) (st : State) (window : List Turn) → IsLawfulPart s → VISIT_TURNS * s.count + VISIT_TURNS + 1 < length window → Throughout (IsUp boot) s st window → Window s st window → Owed s st window
+owed s boot st window l long up w =
+    let x = w.turns in
+    let y : Turns boot s w.visit st window = record { ring = x.visit.ring; places = x.visit.count; follows = follows_plan s w.visit boot st window up x.follows; runs = x.runs; up = up } in
+    let some : 0 < s.count = (let p = l.part in omega (arith, p)) in
+    let enough : VISIT_TURNS * s.count + VISIT_TURNS < length window = omega (arith, long) in
+    record {
+      begins = λ idle left. first_begins s st window (omega (arith, long)) (first_holds (IsUp boot) s st window up).up x.prompt idle left;
+      answers = λ h. first_answers s st window (omega (arith, long)) x.prompt h;
+      activations = activations_taken boot s some w.visit st window enough y;
+      deactivations = deactivations_taken boot s some w.visit st window enough y;
+      engagements = λ h. engagements_read boot s some w.visit st window enough y h;
+      flags = λ q p h. flags_taken boot s q (placed s q l p) w.visit st window enough y h;
+      requests = λ q c p owes h. requests_made boot s q c (peer_placed s q c l p) p.2 w.visit st window enough y h owes;
+      stores = λ q c p owes h. gets_stored boot s q c (peer_placed s q c l p) p.2 w.visit st window enough y h owes;
+      copies = λ q c p owes h. copies_made boot s q c (peer_placed s q c l p) p.2 w.visit st window long y x.paced h owes;
+      sends = λ q c payload wait notify h. sends_made s q c payload wait notify boot some w.visit st window enough y h;
+    }
+
+long_window : (count : ℕ) → count ≤ PARTS → VISIT_TURNS * count + VISIT_TURNS + 1 < window_of count
+long_window count h = by (nat_lt WINDOW_PARTS count) refl where
+  by : (b : Bool) → nat_lt WINDOW_PARTS count ≡ b → VISIT_TURNS * count + VISIT_TURNS + 1 < (if b then WINDOW_TURNS_EACH * count else WINDOW_TURNS)
+  by true e = let m : 8 < count = grind (arith, nat_tests) in omega (arith, m)
+  by false e = let m : count ≤ 8 = grind (arith, nat_tests) in omega (arith, m)
+
+pub served : (s : ScenarioPart) → IsLawfulPart s → (ts : List Turn) → Runs s ts → Visited s ts → Windows s ts
+served s l ts runs v = λ before window after e n up.
+    let x : Going s (first_visit s) (start s) ts = record { visit = first_is s l; paced = fresh_paced s; runs = runs; follows = v.follows; prompt = v.prompt } in
+    let y = subst (λ (us : List Turn). Going s (first_visit s) (start s) us) e x in
+    let few = long_window s.count l.count in
+    owed s (state_after s (start s) before).clock.boots (state_after s (start s) before) window l (subst (λ (k : ℕ). VISIT_TURNS * s.count + VISIT_TURNS + 1 < k) (sym n) few) up (reach s (first_visit s) (start s) before window after l y)

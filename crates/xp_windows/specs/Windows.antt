@@ -1,0 +1,165 @@
+-- What a partition owes within a window of turns, whatever the memory answers: nothing that is due
+-- waits longer. A window lies within one boot. What its premises say holds throughout: before each
+-- of its turns, right before each step, and after the last turn.
+use Rattle.std.specs.Prelude.{◌≡◌, ℕ, ◌<◌, Bool, true, false, ◌||◌, List, [], ◌∷◌, ◌++◌, length, Some, None, IsSome, ◌⊎◌}
+use Rattle.xp_base.specs.History.{Act, Begun, Answered, Noticed, Marked, Turn}
+use Rattle.xp_base.specs.Windows.{window_of}
+use Rattle.xp_base.specs.declared.link.Kind.TheVariants.{MsgRequest}
+use Rattle.xp_script.specs.declared.command.Command.TheVariants.{Send}
+use Rattle.xp_script.specs.declared.part.ScenarioPart.{ScenarioPart}
+use Rattle.xp_protocol.specs.declared.rule.LinkRule.{LinkRule}
+use Rattle.xp_protocol.specs.declared.rule.LinkRule.TheVariants.{Ring, Pull, Acknowledge, SetFlag}
+use Rattle.xp_protocol.specs.declared.rule.PullRule.TheVariants.{ReadCounters}
+use Rattle.xp_protocol.specs.declared.rule.PeerRule.TheVariants.{TakeFlags}
+use Rattle.xp_protocol.specs.declared.rule.OwnRule.{OwnRule}
+use Rattle.xp_protocol.specs.declared.rule.OwnRule.TheVariants.{TakeActivation, TakeDeactivation, ReadEngaged}
+use Rattle.xp_protocol.specs.declared.rule.Rule.{Rule}
+use Rattle.xp_protocol.specs.declared.rule.Rule.TheVariants.{Link, Peer as ForPeer, Own}
+use Rattle.xp_protocol.specs.Parts.{IsPeer, script_in}
+use Rattle.xp_protocol.specs.State.{State, Up, Ready, End, end_of, peer_of, is_connected}
+use Rattle.xp_protocol.specs.Rules.{IsPartner}
+use Rattle.xp_protocol.specs.Decode.{rule_of}
+use Rattle.xp_protocol.specs.Acts.{current, due, after_acts}
+use Rattle.xp_protocol.specs.Runs.{start, after_turn, state_after}
+use Rattle.xp_plan.specs.PeerSteps.{any_left}
+
+-- some acts begin a command; they answer one
+abbrev pub begins : List Act → Bool
+begins [] = false
+begins (Begun ∷ more) = true
+begins (Answered ∷ more) = begins more
+begins (Noticed q c number how ∷ more) = begins more
+
+abbrev pub answers : List Act → Bool
+answers [] = false
+answers (Begun ∷ more) = answers more
+answers (Answered ∷ more) = true
+answers (Noticed q c number how ∷ more) = answers more
+
+-- right before the step of a turn
+abbrev pub middle : ScenarioPart → State → Turn → State
+middle s st t = after_acts s st t.before
+
+-- one of some turns is such a one, said of the state before it
+abbrev pub SomeTurn : (State → Turn → Type 0) → ScenarioPart → State → List Turn → Type 0
+SomeTurn E s st [] = ⊥
+SomeTurn E s st (t ∷ ts) = E st t ⊎ SomeTurn E s (after_turn s st t) ts
+
+-- one of some turns is such a one, and a later one of them is such another
+abbrev pub SomeThen : (E F : State → Turn → Type 0) → ScenarioPart → State → List Turn → Type 0
+SomeThen E F s st [] = ⊥
+SomeThen E F s st (t ∷ ts) =
+    (E st t × SomeTurn F s (after_turn s st t) ts) ⊎ SomeThen E F s (after_turn s st t) ts
+
+abbrev pub Throughout : (State → Type 0) → ScenarioPart → State → List Turn → Type 0
+Throughout C s st [] = C st
+Throughout C s st (t ∷ ts) = C st × C (middle s st t) × Throughout C s (after_turn s st t) ts
+
+-- the turn makes a step, by a rule of which this holds in the state right before the step
+pub record Steps (E : State → Rule → Type 0) (s : ScenarioPart) (st : State)
+    (t : Turn) : Type 0 where
+  pub step : Marked
+  pub made : t.made ≡ Some step
+  pub rule : Rule
+  pub decoded : rule_of s (middle s st t) step.step.op step.mark ≡ Some rule
+  pub is : E (middle s st t) rule
+
+-- the partition is up, in its boot of this number
+pub record IsUp (number : ℕ) (st : State) : Type 0 where
+  pub up : st.life ≡ Up
+  pub boot : st.clock.boots ≡ number
+
+-- a partner is in contact, the own memory stands open to it, and no reason to deactivate it stands
+pub record IsMet (q : ℕ) (st : State) : Type 0 where
+  pub contact : IsSome (peer_of st q).contact
+  pub ready : (peer_of st q).engage.area ≡ Ready
+  pub free : (peer_of st q).engage.reason ≡ None
+
+-- a channel is connected
+pub record IsOpen (q c : ℕ) (st : State) : Type 0 where
+  pub met : IsMet q st
+  pub connected : is_connected (end_of st q c) ≡ true
+
+-- the script's send to an end goes on: it is in progress, and isn't over
+pub record IsSent (s : ScenarioPart) (q c : ℕ) (payload : List ℕ) (wait notify : Bool)
+    (st : State) : Type 0 where
+  pub channel : IsOpen q c st
+  pub doing : st.script.doing ≡ true
+  pub now : current s st ≡ Some (Send q c payload wait notify)
+  pub goes_on : IsSome (end_of st q c).sides.send.send
+
+-- the own memory for a partner waits to be free
+abbrev pub IsLeft : ScenarioPart → State → Type 0
+IsLeft s st = any_left s.part 0 st.peers ≡ true
+
+-- a step at an end, by such a rule
+abbrev pub At : ℕ → ℕ → (End → LinkRule → Type 0) → State → Rule → Type 0
+At q c E st (Link k d m) = (k ≡ q) × (d ≡ c) × E (end_of st q c) m
+At q c E st r = ⊥
+
+-- a partner is told by a message request; get is stored
+abbrev pub IsRequest : End → LinkRule → Type 0
+IsRequest e (SetFlag MsgRequest) = Unit {0}
+IsRequest e m = ⊥
+
+abbrev pub IsStore : End → LinkRule → Type 0
+IsStore e Acknowledge = Unit {0}
+IsStore e m = ⊥
+
+-- a copy of the counters is begun with its get; it is over with its put
+abbrev pub BeginsCopy : End → LinkRule → Type 0
+BeginsCopy e (Pull ReadCounters) = e.sides.pull.counters ≡ None
+BeginsCopy e m = ⊥
+
+abbrev pub EndsCopy : End → LinkRule → Type 0
+EndsCopy e (Pull ReadCounters) = IsSome e.sides.pull.counters
+EndsCopy e m = ⊥
+
+-- a send stores a word of its entry, or put, where there is room by the get that was loaded last,
+-- and else it loads get: the conditions of these rules leave it no choice
+abbrev pub SendsOn : End → LinkRule → Type 0
+SendsOn e (Ring m) = Unit {0}
+SendsOn e m = ⊥
+
+-- the flags of a partner are taken
+abbrev pub TakesFlags : ℕ → State → Rule → Type 0
+TakesFlags q st (ForPeer k TakeFlags) = k ≡ q
+TakesFlags q st r = ⊥
+
+-- a step of the partition as a whole
+abbrev pub IsOwn : OwnRule → State → Rule → Type 0
+IsOwn m st r = r ≡ Own m
+
+-- what is owed of the turns of a window that begins in this state
+pub record Owed (s : ScenarioPart) (st : State) (window : List Turn) : Type 0 where
+  pub begins : st.script.doing ≡ false →
+      st.script.begun < length (script_in s st.clock.boots) →
+      SomeTurn (λ x t. (begins t.before || begins t.after) ≡ true) s st window
+  pub answers : IsSome (due s st) →
+      SomeTurn (λ x t. (answers t.before || answers t.after) ≡ true) s st window
+  pub activations : SomeTurn (Steps (IsOwn TakeActivation) s) s st window
+  pub deactivations : SomeTurn (Steps (IsOwn TakeDeactivation) s) s st window
+  pub engagements : Throughout (IsLeft s) s st window →
+      SomeTurn (Steps (IsOwn ReadEngaged) s) s st window
+  pub flags : (q : ℕ) → IsPartner s q → Throughout (IsMet q) s st window →
+      SomeTurn (Steps (TakesFlags q) s) s st window
+  pub requests : (q c : ℕ) → IsPeer s.part s.count q c →
+      (end_of st q c).shake.owes_message ≡ true → Throughout (IsOpen q c) s st window →
+      SomeTurn (Steps (At q c IsRequest) s) s st window
+  pub stores : (q c : ℕ) → IsPeer s.part s.count q c →
+      (end_of st q c).sides.local_get < (end_of st q c).sides.ack.front →
+      Throughout (IsOpen q c) s st window → SomeTurn (Steps (At q c IsStore) s) s st window
+  pub copies : (q c : ℕ) → IsPeer s.part s.count q c →
+      (end_of st q c).sides.pull.owed ≡ true → Throughout (IsOpen q c) s st window →
+      SomeThen (Steps (At q c BeginsCopy) s) (Steps (At q c EndsCopy) s) s st window
+  pub sends : (q c : ℕ) (payload : List ℕ) (wait notify : Bool) →
+      Throughout (IsSent s q c payload wait notify) s st window →
+      SomeTurn (Steps (At q c SendsOn) s) s st window
+
+-- in each window of consecutive turns of one boot what is owed is done
+abbrev pub Windows : ScenarioPart → List Turn → Type 0
+Windows s ts =
+    (before window after : List Turn) → ts ≡ before ++ (window ++ after) →
+    length window ≡ window_of s.count →
+    let st = state_after s (start s) before in
+    Throughout (IsUp st.clock.boots) s st window → Owed s st window
