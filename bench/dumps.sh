@@ -2,7 +2,8 @@
 # bench/dumps.sh [PROGRAM [COUNT]]: how fast PROGRAM lists dumps, and whether it answers as a plain program does; without
 # a word the built program crates/xpsim/out/xpsim. The plain program is bench/dumps.rs, which rustc has to build.
 #   listing    dumps of 8 partitions, in both layouts, and of 64, with as many words set as the grammar lets: processor
-#              seconds, of the program and of the system for it, the least of nine runs, and the most memory held
+#              seconds, of the program and of the system for it, the least of nine runs, and the most memory held, which
+#              isn't told below the 9 MiB or so of python3 itself
 #   answers    COUNT dumps, 20,000 of them without a word, that are changed at random: status, listing and fault
 set -u
 

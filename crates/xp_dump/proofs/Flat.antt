@@ -15,15 +15,22 @@ concat-rows size zero [] e = refl
 concat-rows size zero (w ∷ ws) e = absurd (omega arith)
 concat-rows size (suc n) ws e =
     let rest : length (drop size ws) ≡ size * n = omega (arith, length-drop size ws) in
-    ap (λ (r : List ℕ). take size ws ++ r) (concat-rows size n (drop size ws) rest) ∙ take-append-drop size ws
+    ap (λ (r : List ℕ). take size ws ++ r) (concat-rows size n (drop size ws) rest)
+    ∙ take-append-drop size ws
 
-joined : (a b : ℕ) (ws : List ℕ) → bytes_of_words (a ∷ b ∷ []) ++ bytes_of_words ws ≡ bytes_of_words (a ∷ b ∷ ws)
+joined : (a b : ℕ) (ws : List ℕ) → bytes_of_words (a ∷ b ∷ [])
+    ++ bytes_of_words ws ≡ bytes_of_words (a ∷ b ∷ ws)
 unfolding bytes_of_words
 joined a b ws = refl
 
-pub dumped : (m : Memory) (flat first second third : List ℕ) (count : ℕ) → first ≡ [] → second ≡ first ++ bytes_of_words (NEWER_HEADER ∷ count ∷ []) → third ≡ second ++ bytes_of_words flat
-    → count ≡ length m → length flat ≡ PART_WORDS * length m → rows PART_WORDS (length m) flat ≡ m → third ≡ dump_bytes m
+pub dumped : (m : Memory) (flat first second third : List ℕ) (count : ℕ) → first ≡ []
+    → second ≡ first ++ bytes_of_words (NEWER_HEADER ∷ count ∷ []) → third ≡ second
+    ++ bytes_of_words flat
+    → count ≡ length m → length flat ≡ PART_WORDS * length m → rows PART_WORDS (length m) flat ≡ m
+    → third ≡ dump_bytes m
 dumped m flat first second third count e f g h k r =
     let all : flat ≡ concat m = sym (concat-rows PART_WORDS (length m) flat k) ∙ ap concat r in
-    g ∙ ap (λ (s : List ℕ). s ++ bytes_of_words flat) (f ∙ ap (λ (s : List ℕ). s ++ bytes_of_words (NEWER_HEADER ∷ count ∷ [])) e)
-    ∙ joined NEWER_HEADER count flat ∙ ap (λ (n : ℕ). bytes_of_words (NEWER_HEADER ∷ n ∷ flat)) h ∙ ap (λ (ws : List ℕ). bytes_of_words (NEWER_HEADER ∷ length m ∷ ws)) all
+    g ∙ ap (λ (s : List ℕ). s ++ bytes_of_words flat)
+    (f ∙ ap (λ (s : List ℕ). s ++ bytes_of_words (NEWER_HEADER ∷ count ∷ [])) e)
+    ∙ joined NEWER_HEADER count flat ∙ ap (λ (n : ℕ). bytes_of_words (NEWER_HEADER ∷ n ∷ flat)) h
+    ∙ ap (λ (ws : List ℕ). bytes_of_words (NEWER_HEADER ∷ length m ∷ ws)) all

@@ -52,8 +52,8 @@ index_at l k = (k - 2) % words_of l
 
 -- the version word of the partition, once it came
 abbrev pub version_before : Numbered → Layout → ℕ → ℕ → ℕ
-version_before f l owner index = if nat_lt VERSION_AT index then f (number_of l owner VERSION_AT)
-    else 0
+version_before f l owner index =
+    if nat_lt VERSION_AT index then f (number_of l owner VERSION_AT) else 0
 
 -- what word `index` of a partition may be, of a dump with this layout and count
 abbrev pub part_row : Layout → ℕ → ℕ → ℕ → ℕ → Row
@@ -63,12 +63,14 @@ part_row l count version owner index =
 
 -- what word k of a partition may be
 unfoldable pub row_at_word : Numbered → ℕ → Row
-row_at_word f k = let l = layout_of (f 0) in
-    part_row l (f 1) (version_before f l (owner_at l k) (index_at l k)) (owner_at l k)
-    (index_at l k)
+row_at_word f k =
+    let l = layout_of (f 0) in
+    part_row l (f 1) (version_before f l (owner_at l k) (index_at l k))
+    (owner_at l k) (index_at l k)
 
 abbrev pub word_allowed : Numbered → ℕ → Bool
-word_allowed f k = if k == 0 then is_header (f 0)
+word_allowed f k =
+    if k == 0 then is_header (f 0)
     else (if k == 1 then is_count (layout_of (f 0)) (f 1)
     else allows (row_at_word f k).allowed (f k))
 
@@ -139,5 +141,5 @@ pub record IsInGrammar (m : Memory) : Type 0 where
   pub sized : (o : ℕ) → o < length m → length (slice_index_or m o []) ≡ PART_WORDS
   pub small : (o i : ℕ) → word_at m o i < 2 ^ 64
   pub words : (o i : ℕ) → o < length m → i < PART_WORDS
-      → allows (part_row Newer (length m) (word_at m o VERSION_AT) o i).allowed
-      (word_at m o i) ≡ true
+      → allows (part_row Newer (length m) (word_at m o VERSION_AT) o i).allowed (word_at m o i)
+      ≡ true

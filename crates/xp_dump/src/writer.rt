@@ -1,5 +1,6 @@
 // The bytes of a dump.
 ghost use Rattle.std.specs.Prelude.{◌≡◌, ◌++◌, IfOk, OnOk};
+ghost use Rattle.xp_base.specs.Memory.{Memory};
 ghost use Rattle.xp_page.specs.Reading.{bytes_of_words};
 ghost use Rattle.xp_dump.specs.Grammar.{IsDump, IsInGrammar, dump_bytes};
 
@@ -27,8 +28,10 @@ fn append(out: &mut Vec<u8>, words: &[u64]) -> Result<(), AllocError>
 /// each.
 pub fn dump(alloc: Global, words: &Words) -> Result<Vec<u8>, AllocError>
     ensures bytes { IfOk result (λ bytes. bytes.items ≡ dump_bytes words.now) }
-    // Words that the grammar allows are told by their dump.
+    // Words that the grammar allows are told by their dump, and no others are.
     ensures told { IfOk result (λ bytes. IsInGrammar words.now → IsDump bytes.items words.now) }
+    ensures alone { IfOk result (λ bytes. (m : Memory) → IsInGrammar words.now
+        → IsDump bytes.items m → m ≡ words.now) }
 {
     let flat = words.flat();
     let mut out = Vec::with_capacity(alloc, WORD_BYTES * (flat.len() + 2))?;

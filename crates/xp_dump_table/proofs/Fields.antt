@@ -10,7 +10,8 @@ use Rattle.xp_dump_table.specs.Layouts.{flags_at, args_at, counters_at, entries_
 use Rattle.xp_base.specs.declared.layout.TheConstants.{OPEN_WORDS}
 use Rattle.xp_dump_table.specs.Table.{has_room}
 
-pub field_of-place_of : (l : Layout) (field : Field) → IsField l field → field_of l (place_of l field) ≡ field
+pub field_of-place_of : (l : Layout) (field : Field) → IsField l field
+    → field_of l (place_of l field) ≡ field
 unfolding field_of
 field_of-place_of Older (Open n) h = grind (arith, nat_tests)
 field_of-place_of Older (Record q f) h = grind (arith, nat_tests)
@@ -32,7 +33,8 @@ pub record Stands (l : Layout) (i : ℕ) (field : Field) : Type 0 where
   pub place : place_of l field ≡ i
 
 -- the field of a choice, by the test that makes it
-by_test : (l : Layout) (i x y : ℕ) (a b : Field) → (x < y → Stands l i a) → (y ≤ x → Stands l i b) → Stands l i (if nat_lt x y then a else b)
+by_test : (l : Layout) (i x y : ℕ) (a b : Field) → (x < y → Stands l i a) → (y ≤ x → Stands l i b)
+    → Stands l i (if nat_lt x y then a else b)
 by_test l i x y a b p q = elim (cases_lt x y) [
   | inl low ↦ let t : nat_lt x y ≡ true = grind (arith, nat_tests) in rw t (p low)
   | inr high ↦ let t : nat_lt x y ≡ false = grind (arith, nat_tests) in rw t (q high)
@@ -42,11 +44,16 @@ pub field_stands : (l : Layout) (i : ℕ) → i < words_of l → Stands l i (fie
 unfolding field_of
 field_stands l i h =
     by_test l i i OPEN_WORDS _ _ (λ low. record { within = low; place = refl })
-    (λ a. by_test l i i (flags_at l) _ _ (λ low. record { within = (omega arith, omega arith); place = omega arith })
-    (λ b. by_test l i i (args_at l) _ _ (λ low. record { within = omega arith; place = omega arith })
-    (λ c. by_test l i i (counters_at l) _ _ (λ low. record { within = (omega arith, omega arith, omega arith); place = omega arith })
-    (λ d. by_test l i i (entries_at l) _ _ (λ low. record { within = (omega arith, omega arith, omega arith); place = omega arith })
-    (λ e. by_test l i i (pool_at l) _ _ (λ low. record { within = (omega arith, omega arith, omega arith); place = omega arith })
+    (λ a. by_test l i i (flags_at l) _ _
+    (λ low. record { within = (omega arith, omega arith); place = omega arith })
+    (λ b. by_test l i i (args_at l) _ _
+    (λ low. record { within = omega arith; place = omega arith })
+    (λ c. by_test l i i (counters_at l) _ _
+    (λ low. record { within = (omega arith, omega arith, omega arith); place = omega arith })
+    (λ d. by_test l i i (entries_at l) _ _
+    (λ low. record { within = (omega arith, omega arith, omega arith); place = omega arith })
+    (λ e. by_test l i i (pool_at l) _ _
+    (λ low. record { within = (omega arith, omega arith, omega arith); place = omega arith })
     (λ f. record { within = omega arith; place = omega arith }))))))
 
 pub place_within : (l : Layout) (field : Field) → IsField l field → place_of l field < words_of l

@@ -36,22 +36,25 @@ each line k (suc n) = line k ⧺ each line (k + 1) n
 -- partitions
 unfoldable pub page_text : ℕ → ℕ → ℕ → ℕ → List ℕ
 page_text owner version stamp partitions =
-    codes "partition " ⧺ decimal owner ⧺ codes " version " ⧺ decimal (version / 16) ⧺ codes "."
-    ⧺ decimal (version % 16)
+    codes "partition " ⧺ decimal owner
+    ⧺ codes " version " ⧺ decimal (version / 16) ⧺ codes "." ⧺ decimal (version % 16)
     ⧺ codes " stamp " ⧺ decimal stamp ⧺ codes " partitions " ⧺ hexadecimal partitions ⧺ line_end
 
 abbrev pub partition_line : Memory → ℕ → List ℕ
-partition_line m o = page_text o (word_at m o VERSION_AT) (word_at m o STAMP)
-    (word_at m o PARTS_MASK_AT)
+partition_line m o =
+    page_text o (word_at m o VERSION_AT) (word_at m o STAMP) (word_at m o PARTS_MASK_AT)
 
 -- the variables
 unfoldable pub beat_text : Vars → List ℕ
-beat_text v = codes "  vars beat " ⧺ decimal v.beat ⧺ codes " mask " ⧺ hexadecimal v.mask
-    ⧺ codes " offline " ⧺ decimal v.offline
+beat_text v =
+    codes "  vars beat " ⧺ decimal v.beat
+    ⧺ codes " mask " ⧺ hexadecimal v.mask ⧺ codes " offline " ⧺ decimal v.offline
 
 unfoldable pub masks_text : Vars → List ℕ
-masks_text v = codes " activation " ⧺ hexadecimal v.activation ⧺ codes " engaged "
-    ⧺ hexadecimal v.engaged ⧺ codes " deactivate " ⧺ hexadecimal v.deactivation ⧺ line_end
+masks_text v =
+    codes " activation " ⧺ hexadecimal v.activation
+    ⧺ codes " engaged " ⧺ hexadecimal v.engaged
+    ⧺ codes " deactivate " ⧺ hexadecimal v.deactivation ⧺ line_end
 
 abbrev pub vars_text : Vars → List ℕ
 vars_text v = beat_text v ⧺ masks_text v
@@ -73,8 +76,8 @@ magic_text magic = if magic == FIRST then codes "first" else codes "second"
 
 unfoldable pub record_text : ℕ → List ℕ → Session → Session → List ℕ
 record_text q name session echo =
-    codes "  record " ⧺ decimal q ⧺ codes " " ⧺ name ⧺ codes " session " ⧺ decimal session.stamp
-    ⧺ codes "." ⧺ decimal session.count
+    codes "  record " ⧺ decimal q ⧺ codes " " ⧺ name
+    ⧺ codes " session " ⧺ decimal session.stamp ⧺ codes "." ⧺ decimal session.count
     ⧺ codes " echo " ⧺ decimal echo.stamp ⧺ codes "." ⧺ decimal echo.count ⧺ line_end
 
 abbrev pub record_word : Memory → ℕ → ℕ → ℕ → ℕ
@@ -83,8 +86,8 @@ record_word m o q f = word_at m o (index_of (Record q f))
 abbrev pub record_line : Memory → ℕ → ℕ → List ℕ
 record_line m o q =
     if record_word m o q 0 == 0 then []
-    else record_text q (magic_text (record_word m o q 0)) (session_of (record_word m o q 1))
-    (session_of (record_word m o q 2))
+    else record_text q (magic_text (record_word m o q 0))
+    (session_of (record_word m o q 1)) (session_of (record_word m o q 2))
 
 abbrev pub records_text : Memory → ℕ → List ℕ
 records_text m o = each (record_line m o) 0 PARTS
@@ -114,12 +117,14 @@ abbrev pub flags_text : ℕ → ℕ → Kinds → List ℕ
 flags_text q c set = flags_start q c ⧺ kind_names set all_kinds ⧺ line_end
 
 abbrev pub set_line : ℕ → ℕ → ℕ → List ℕ
-set_line q c word = if (spare_in word c == 0) && is_some (next_of false (kinds_in word c))
-    then flags_text q c (kinds_in word c) else []
+set_line q c word =
+    if (spare_in word c == 0) && is_some (next_of false (kinds_in word c))
+    then flags_text q c (kinds_in word c)
+    else []
 
 abbrev pub flags_line : Memory → ℕ → ℕ → List ℕ
-flags_line m o i = set_line (partner_at i) (channel_at i)
-    (word_at m o (index_of (Flag (partner_at i))))
+flags_line m o i =
+    set_line (partner_at i) (channel_at i) (word_at m o (index_of (Flag (partner_at i))))
 
 abbrev pub all_flags_text : Memory → ℕ → List ℕ
 all_flags_text m o = each (flags_line m o) 0 AREA_CHANNELS
@@ -128,10 +133,10 @@ all_flags_text m o = each (flags_line m o) 0 AREA_CHANNELS
 -- the reason's code
 unfoldable pub args_text : ℕ → ℕ → Args → List ℕ
 args_text q c args =
-    codes "  args " ⧺ decimal q ⧺ codes " " ⧺ decimal c ⧺ codes " entries "
-    ⧺ decimal (args.request / REQUEST_ENTRY)
-    ⧺ codes " limit " ⧺ decimal (args.request % REQUEST_ENTRY) ⧺ codes " queue "
-    ⧺ decimal args.reply ⧺ codes " reason " ⧺ decimal args.reason ⧺ line_end
+    codes "  args " ⧺ decimal q ⧺ codes " " ⧺ decimal c
+    ⧺ codes " entries " ⧺ decimal (args.request / REQUEST_ENTRY)
+    ⧺ codes " limit " ⧺ decimal (args.request % REQUEST_ENTRY)
+    ⧺ codes " queue " ⧺ decimal args.reply ⧺ codes " reason " ⧺ decimal args.reason ⧺ line_end
 
 abbrev pub args_at : Memory → ℕ → ℕ → Args
 args_at m o i =
@@ -155,8 +160,8 @@ all_args_text m o = each (args_line m o) 0 AREA_CHANNELS
 -- the counters of a channel
 unfoldable pub counters_text : ℕ → ℕ → ℕ → ℕ → List ℕ
 counters_text q c get put =
-    codes "  counters " ⧺ decimal q ⧺ codes " " ⧺ decimal c ⧺ codes " get " ⧺ decimal get
-    ⧺ codes " put " ⧺ decimal put ⧺ line_end
+    codes "  counters " ⧺ decimal q ⧺ codes " " ⧺ decimal c
+    ⧺ codes " get " ⧺ decimal get ⧺ codes " put " ⧺ decimal put ⧺ line_end
 
 abbrev pub counter_word : Memory → ℕ → ℕ → ℕ → ℕ
 counter_word m o i f = word_at m o (index_of (Counter (partner_at i) (channel_at i) f))
@@ -164,8 +169,8 @@ counter_word m o i f = word_at m o (index_of (Counter (partner_at i) (channel_at
 abbrev pub counters_line : Memory → ℕ → ℕ → List ℕ
 counters_line m o i =
     if (counter_word m o i 0 == 0) && (counter_word m o i 1 == 0) then []
-    else counters_text (partner_at i) (channel_at i) (counter_word m o i 0)
-    (counter_word m o i 1)
+    else counters_text (partner_at i) (channel_at i)
+    (counter_word m o i 0) (counter_word m o i 1)
 
 abbrev pub all_counters_text : Memory → ℕ → List ℕ
 all_counters_text m o = each (counters_line m o) 0 AREA_CHANNELS
@@ -173,14 +178,15 @@ all_counters_text m o = each (counters_line m o) 0 AREA_CHANNELS
 -- the words of an entry of one line
 abbrev pub entry_words : Memory → ℕ → ℕ → List ℕ
 entry_words m o i =
-    map (λ f. word_at m o
-    (index_of (Entry (partner_at (i / LINES)) (channel_at (i / LINES))
-    (LINE_WORDS * (i % LINES) + f)))) (range_with_len 0 LINE_WORDS)
+    map
+    (λ f. word_at m o (index_of
+    (Entry (partner_at (i / LINES)) (channel_at (i / LINES)) (LINE_WORDS * (i % LINES) + f))))
+    (range_with_len 0 LINE_WORDS)
 
 unfoldable pub entry_start : ℕ → ℕ → List ℕ
 entry_start i number =
-    codes "  entry " ⧺ decimal (partner_at (i / LINES)) ⧺ codes " "
-    ⧺ decimal (channel_at (i / LINES)) ⧺ codes " " ⧺ decimal (i % LINES)
+    codes "  entry " ⧺ decimal (partner_at (i / LINES))
+    ⧺ codes " " ⧺ decimal (channel_at (i / LINES)) ⧺ codes " " ⧺ decimal (i % LINES)
     ⧺ codes " number " ⧺ decimal number ⧺ codes " "
 
 -- an entry: its message's number, and its payload
@@ -189,21 +195,27 @@ entry_text i words = entry_start i (slice_index words 1) ⧺ payload_text (body_
 
 -- the first word tells a length, where it isn't 0
 abbrev pub used_line : ℕ → List ℕ → List ℕ
-used_line i words = if nat_le LENGTH_MARK (slice_index words 0)
-    && nat_le (slice_index words 0) (LENGTH_MARK + LINE_BYTES) then entry_text i words else []
+used_line i words =
+    if nat_le LENGTH_MARK (slice_index words 0)
+    && nat_le (slice_index words 0) (LENGTH_MARK + LINE_BYTES)
+    then entry_text i words
+    else []
 
 abbrev pub entry_line : Memory → ℕ → ℕ → List ℕ
 entry_line m o i = used_line i (entry_words m o i)
 
 -- entries of several lines aren't listed: the words don't tell how many lines they have
 abbrev pub entries_text : Memory → ℕ → List ℕ
-entries_text m o = if nat_lt (word_at m o VERSION_AT) LINES_VERSION
-    then each (entry_line m o) 0 AREA_ENTRIES else []
+entries_text m o =
+    if nat_lt (word_at m o VERSION_AT) LINES_VERSION
+    then each (entry_line m o) 0 AREA_ENTRIES
+    else []
 
 -- the lines of a partition
 abbrev pub part_text : Memory → ℕ → List ℕ
-part_text m o = partition_line m o ⧺ vars_line m o ⧺ records_text m o ⧺ all_flags_text m o
-    ⧺ all_args_text m o ⧺ all_counters_text m o ⧺ entries_text m o
+part_text m o =
+    partition_line m o ⧺ vars_line m o ⧺ records_text m o
+    ⧺ all_flags_text m o ⧺ all_args_text m o ⧺ all_counters_text m o ⧺ entries_text m o
 
 abbrev pub listing_of : Memory → List ℕ
 listing_of m = codes "listing 1" ⧺ line_end ⧺ each (part_text m) 0 (length m)

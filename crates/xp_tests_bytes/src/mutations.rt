@@ -38,9 +38,9 @@ impl Numbers {
     }
 }
 
-/// The number of a word to be changed: one in four is one of the first words that aren't 0, and most
-/// of the others stand before the queues. The count isn't changed, since what other words may be
-/// depends on it.
+/// The number of a word to be changed: one in four is one of the first words that aren't 0, and
+/// most of the others stand before the queues. The count isn't changed, since what other words may
+/// be depends on it.
 fn number_to_change(sample: &Sample, numbers: &mut Numbers) -> usize {
     let any = match numbers.below(50) {
         0 => numbers.below(11_826),
@@ -147,7 +147,7 @@ fn is_message_answered(rt: &impl Abort, message: &[u8], numbers: &mut Numbers) {
     bytes[..whole].copy_from_slice(&message[..whole]);
     for _ in 0..2u32 {
         let place = numbers.below(36) as usize;
-        bytes[place] = (changed(bytes[place] as u64, numbers) % 256) as u8;
+        bytes[place] = changed(u64::from(bytes[place]), numbers).to_le_bytes()[0];
     }
     let length = match numbers.below(4) {
         0 => numbers.below(48) as usize,

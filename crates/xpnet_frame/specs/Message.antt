@@ -65,7 +65,8 @@ is_embedded h n =
     && ((h.size == n) && ((h.place == 0) && ((h.lead_in == 0) && (h.tail_out == 0))))))
 
 abbrev pub is_buffer : ℕ → Bool
-is_buffer place = nat_le POOL_AT place
+is_buffer place =
+    nat_le POOL_AT place
     && (nat_lt place PART_WORDS && ((place - POOL_AT) % BUFFER_WORDS == 0))
 
 -- the sizes of a message that names a buffer, and n bytes behind it
@@ -78,19 +79,19 @@ is_buffered h n =
     && nat_le h.size (LEAD_IN + h.tail_out + FRAME_BYTES)))))
 
 abbrev pub embedded_message : Header → List ℕ → Result NetMessage NetFault
-embedded_message h payload = if is_embedded h (length payload) then Ok (Embedded payload)
-    else Err NotEmbedded
+embedded_message h payload =
+    if is_embedded h (length payload) then Ok (Embedded payload) else Err NotEmbedded
 
 abbrev pub buffered_message : Header → ℕ → Result NetMessage NetFault
 buffered_message h n =
     if is_buffer h.place
-    then (if is_buffered h n then Ok (Buffered h.place (h.size - LEAD_IN - h.tail_out))
-    else Err Size) else Err Address
+    then (if is_buffered h n then Ok (Buffered h.place (h.size - LEAD_IN - h.tail_out)) else Err Size)
+    else Err Address
 
 -- the message of a header whose version and magic are right, with the payload behind it
 abbrev pub formed : Header → List ℕ → Result NetMessage NetFault
-formed h payload = if h.embedded == 0 then buffered_message h (length payload)
-    else embedded_message h payload
+formed h payload =
+    if h.embedded == 0 then buffered_message h (length payload) else embedded_message h payload
 
 abbrev pub message_of : Header → List ℕ → Result NetMessage NetFault
 message_of h payload = if h.version == MESSAGE_VERSION

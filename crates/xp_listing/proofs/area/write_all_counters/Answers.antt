@@ -6,7 +6,11 @@ use Rattle.xp_listing.proofs.area.write_all_counters.Goals as goal
 
 pub loop-i-preserved : goal.loop-i-preserved
 loop-i-preserved c =
-    next_line (counters_line c.args.words.now c.args.owner) c.loop-i.i AREA_CHANNELS (string_bytes c.loop-i.out) (string_bytes c.write_counters.new.out) _ c.loop-i-test.true c.loop-i.invariant c.in_ok-write_counters.ensures
+    next_line (counters_line c.args.words.now c.args.owner) c.loop-i.i AREA_CHANNELS
+    (string_bytes c.loop-i.out)
+    (string_bytes c.write_counters.new.out) _ c.loop-i-test.true c.loop-i.invariant
+    c.in_ok-write_counters.ensures
 
 pub returns : goal.returns
-returns c = all_lines (counters_line c.args.words.now c.args.owner) c.loop-i.i AREA_CHANNELS (string_bytes c.loop-i.out) _ (omega arith) c.loop-i.invariant
+returns c = all_lines (counters_line c.args.words.now c.args.owner) c.loop-i.i AREA_CHANNELS
+    (string_bytes c.loop-i.out) _ (omega arith) c.loop-i.invariant

@@ -9,5 +9,8 @@ abbrev pub invariant-loop-field : goal.invariant-loop-field
 invariant-loop-field l =
     record {
       size : length l.entry ≡ LINE_WORDS;
-      told : (k : ℕ) → k < l.field → get_or l.entry k 0 ≡ word_at l.words l.fn.owner (index_of (Entry (partner_at (l.fn.i / LINES)) (channel_at (l.fn.i / LINES)) (LINE_WORDS * (l.fn.i % LINES) + k)));
+      told : (k : ℕ) → k < l.field
+          → get_or l.entry k 0 ≡ word_at l.words l.fn.owner
+          (index_of (Entry (partner_at (l.fn.i / LINES)) (channel_at (l.fn.i / LINES))
+          (LINE_WORDS * (l.fn.i % LINES) + k)));
     }

@@ -6,7 +6,11 @@ use Rattle.xp_listing.proofs.flags.write_all_flags.Goals as goal
 
 pub loop-i-preserved : goal.loop-i-preserved
 loop-i-preserved c =
-    next_line (flags_line c.args.words.now c.args.owner) c.loop-i.i AREA_CHANNELS (string_bytes c.loop-i.out) (string_bytes c.write_flags.new.out) _ c.loop-i-test.true c.loop-i.invariant c.in_ok-write_flags.ensures
+    next_line (flags_line c.args.words.now c.args.owner) c.loop-i.i AREA_CHANNELS
+    (string_bytes c.loop-i.out)
+    (string_bytes c.write_flags.new.out) _ c.loop-i-test.true c.loop-i.invariant
+    c.in_ok-write_flags.ensures
 
 pub returns : goal.returns
-returns c = all_lines (flags_line c.args.words.now c.args.owner) c.loop-i.i AREA_CHANNELS (string_bytes c.loop-i.out) _ (omega arith) c.loop-i.invariant
+returns c = all_lines (flags_line c.args.words.now c.args.owner) c.loop-i.i AREA_CHANNELS
+    (string_bytes c.loop-i.out) _ (omega arith) c.loop-i.invariant

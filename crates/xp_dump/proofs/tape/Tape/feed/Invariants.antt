@@ -7,7 +7,8 @@ invariant-loop-at l =
     record {
       tape : IsTape l.self;
       low : l.at ≤ length l.piece;
-      read : (bytes : List ℕ) → IsRead bytes l.initial.self → IsRead (bytes ++ take l.at l.piece) l.self;
+      read : (bytes : List ℕ) → IsRead bytes l.initial.self
+          → IsRead (bytes ++ take l.at l.piece) l.self;
     }
 
 abbrev pub decreases-loop-at : goal.decreases-loop-at

@@ -19,12 +19,15 @@ if_false false x y h = refl
 pub returns-then-number-lt-VARIABLES_AT : goal.returns-then-number-lt-VARIABLES_AT
 returns-then-number-lt-VARIABLES_AT c =
     let low : nat_lt c.args.number VARIABLES_AT ≡ true = grind (arith, nat_tests) in
-    c.nth.ensures ∙ ap (λ (rows : List Row). row_at rows c.args.number) c.page_rows.ensures ∙ ap (λ (at : At). row_at (page_table at) c.args.number) c.at.ensures
+    c.nth.ensures ∙ ap (λ (rows : List Row). row_at rows c.args.number) c.page_rows.ensures
+    ∙ ap (λ (at : At). row_at (page_table at) c.args.number) c.at.ensures
     ∙ sym (if_true (nat_lt c.args.number VARIABLES_AT) _ _ low)
 
 pub returns-else-number-lt-VARIABLES_AT : goal.returns-else-number-lt-VARIABLES_AT
 returns-else-number-lt-VARIABLES_AT c =
     let high : nat_lt c.args.number VARIABLES_AT ≡ false = grind (arith, nat_tests) in
-    c.nth-else-number-lt-VARIABLES_AT.ensures ∙ ap (λ (rows : List Row). row_at rows (c.args.number - VARIABLES_AT)) c.vars_rows.ensures
-    ∙ ap (λ (at : At). row_at (vars_table at) (c.args.number - VARIABLES_AT)) c.at-else-number-lt-VARIABLES_AT.ensures
+    c.nth-else-number-lt-VARIABLES_AT.ensures
+    ∙ ap (λ (rows : List Row). row_at rows (c.args.number - VARIABLES_AT)) c.vars_rows.ensures
+    ∙ ap (λ (at : At). row_at (vars_table at)
+    (c.args.number - VARIABLES_AT)) c.at-else-number-lt-VARIABLES_AT.ensures
     ∙ sym (if_false (nat_lt c.args.number VARIABLES_AT) _ _ high)

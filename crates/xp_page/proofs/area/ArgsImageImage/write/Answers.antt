@@ -8,9 +8,16 @@ abbrev words_of : ArgsImage → List ℕ
 words_of x = x.request ∷ x.reply ∷ x.reason ∷ x.padding ∷ []
 
 same : (x y : ArgsImage) → words_of y ≡ words_of x → y ≡ x
-same x y e = λ i. record { request = get_or (e i) 0 0; reply = get_or (e i) 1 0; reason = get_or (e i) 2 0; padding = get_or (e i) 3 0 }
+same x y e = λ i. record {
+  request = get_or (e i) 0 0;
+  reply = get_or (e i) 1 0;
+  reason = get_or (e i) 2 0;
+  padding = get_or (e i) 3 0;
+}
 
 pub returns-clause-back : goal.returns-clause-back
 returns-clause-back c at rest r h q =
-    let small = subst (λ (ws : List ℕ). (i : ℕ) → get_or ws i 0 < 2 ^ 64) c.to_words.ensures c.append.ensures.range in
-    read_back words_of (args_table at) at.offset c.args.self.now rest r (same c.args.self.now) refl small h q
+    let small = subst (λ (ws : List ℕ). (i : ℕ)
+    → get_or ws i 0 < 2 ^ 64) c.to_words.ensures c.append.ensures.range in
+    read_back words_of (args_table at) at.offset c.args.self.now rest r
+    (same c.args.self.now) refl small h q

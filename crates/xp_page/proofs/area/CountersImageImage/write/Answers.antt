@@ -12,5 +12,7 @@ same x y e = λ i. record { get = get_or (e i) 0 0; put = get_or (e i) 1 0 }
 
 pub returns-clause-back : goal.returns-clause-back
 returns-clause-back c at rest r h q =
-    let small = subst (λ (ws : List ℕ). (i : ℕ) → get_or ws i 0 < 2 ^ 64) c.to_words.ensures c.append.ensures.range in
-    read_back words_of (counters_table at) at.offset c.args.self.now rest r (same c.args.self.now) refl small h q
+    let small = subst (λ (ws : List ℕ). (i : ℕ)
+    → get_or ws i 0 < 2 ^ 64) c.to_words.ensures c.append.ensures.range in
+    read_back words_of (counters_table at) at.offset c.args.self.now rest r
+    (same c.args.self.now) refl small h q
