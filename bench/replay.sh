@@ -51,28 +51,7 @@ make_pairs() {
     }'
 }
 
-# measure INPUT OUTPUT PROGRAM WORD..: its processor seconds, and the most memory that it held, in KiB; "?" where that
-# can't be told. Without GNU time python3 measures, which never tells less than its own 10 to 20 MiB.
-measure() {
-    local input="$1" output="$2"
-    shift 2
-    if /usr/bin/time -f '%U %S %M' true >/dev/null 2>&1; then
-        /usr/bin/time -f '%U %S %M' -o "$folder/measured" "$@" <"$input" >"$output" || return 1
-        tail -n 1 "$folder/measured" | awk '{ print $1 + $2, $3 }'
-    elif command -v python3 >/dev/null 2>&1; then
-        python3 -c '
-import resource, subprocess, sys
-given, written, *command = sys.argv[1:]
-with open(given) as source, open(written, "w") as sink:
-    subprocess.run(command, stdin=source, stdout=sink, check=True)
-used = resource.getrusage(resource.RUSAGE_CHILDREN)
-print(round(used.ru_utime + used.ru_stime, 2), used.ru_maxrss)' "$input" "$output" "$@"
-    else
-        local TIMEFORMAT='%U %S'
-        { time "$@" <"$input" >"$output"; } 2>"$folder/measured" || return 1
-        tail -n 1 "$folder/measured" | awk '{ print $1 + $2, "?" }'
-    fi
-}
+. "$here/measure.sh"
 
 line() { # who seconds KiB turns
     local memory="?"
@@ -97,14 +76,16 @@ failed=0
 for name in idle busy pairs; do
     "make_$name" >"$folder/$name.xp"
     echo "$name: $turns written turns"
-    if ! read -r seconds memory < <(measure "$folder/$name.xp" "$folder/$name.report" "$program" replay); then
+    read -r seconds memory status < <(measure "$folder/$name.xp" "$folder/$name.report" "$program" replay)
+    if [ "${status:-1}" != 0 ]; then
         echo "  the program failed"
         failed=1
         continue
     fi
     line xpsim "$seconds" "$memory" "$turns"
     [ -n "$baseline" ] && [ "$name" != pairs ] || continue
-    read -r plain_seconds plain_memory < <(measure "$folder/$name.xp" "$folder/$name.plain" "$baseline" replay) || continue
+    read -r plain_seconds plain_memory status < <(measure "$folder/$name.xp" "$folder/$name.plain" "$baseline" replay)
+    [ "${status:-1}" = 0 ] || continue
     line baseline "$plain_seconds" "$plain_memory" "$turns"
     awk -v a="$seconds" -v b="$plain_seconds" 'BEGIN { if (b > 0) printf "  ratio %.1f\n", a / b }'
     if ! cmp -s "$folder/$name.report" "$folder/$name.plain"; then
