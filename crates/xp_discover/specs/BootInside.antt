@@ -18,5 +18,5 @@ pub record IsInRange (x : Inside) : Type 0 where
   pub count : x.count ≤ PARTS
   pub own : x.own < x.count
   pub zeroed : x.zeroed ≤ x.count
-  pub cleared : x.cleared ≤ x.count
+  pub cleared : x.cleared ≤ x.zeroed
   pub read : (w : ℕ) → x.read ≡ Some w → w < LAST_STAMP

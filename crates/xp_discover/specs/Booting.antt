@@ -1,6 +1,6 @@
 -- What a partition has done of a boot, and what it does next: it reads its stamp, clears its own
--- words, then its magic for each partner, then its engagement bit at each, and stores its new stamp.
-use Rattle.std.specs.Prelude.{◌≡◌, ℕ, ◌+◌, ◌<◌, Bool, true, false, is_some, if◌then◌else◌, nat_eq, nat_lt, [], length, Option, Some, None}
+-- words, then for each partner its magic and its engagement bit, and stores its new stamp.
+use Rattle.std.specs.Prelude.{◌≡◌, ℕ, ◌+◌, ◌<◌, Bool, true, false, is_some, if◌then◌else◌, nat_eq, nat_le, nat_lt, [], length, Option, Some, None}
 use Rattle.xp_base.specs.declared.step.Wanted.{Wanted}
 use Rattle.xp_protocol.specs.declared.rule.Rule.{Rule}
 use Rattle.xp_protocol.specs.declared.rule.Rule.TheVariants as rules
@@ -43,9 +43,10 @@ partner_from own q = if nat_eq q own then q + 1 else q
 -- what comes next
 abbrev pub partner_step : Starting → BootStep
 partner_step x =
-    if nat_lt (partner_from x.own x.zeroed) x.count then ZeroMagic (partner_from x.own x.zeroed)
-    else (if nat_lt (partner_from x.own x.cleared) x.count
-    then ClearOldBit (partner_from x.own x.cleared) else WriteStamp)
+    if nat_lt (partner_from x.own x.cleared) x.count
+    then (if nat_le x.zeroed (partner_from x.own x.cleared)
+    then ZeroMagic (partner_from x.own x.cleared) else ClearOldBit (partner_from x.own x.cleared))
+    else WriteStamp
 
 abbrev pub boot_step : Starting → Option BootStep
 boot_step x =

@@ -98,10 +98,12 @@ impl Boot {
             Some(BootStep::ZeroMask)
         } else if !self.offline {
             Some(BootStep::ZeroOffline)
-        } else if let Some(partner) = self.partner_from(self.zeroed) {
-            Some(BootStep::ZeroMagic(partner))
         } else if let Some(partner) = self.partner_from(self.cleared) {
-            Some(BootStep::ClearOldBit(partner))
+            if self.zeroed <= partner.get() {
+                Some(BootStep::ZeroMagic(partner))
+            } else {
+                Some(BootStep::ClearOldBit(partner))
+            }
         } else {
             Some(BootStep::WriteStamp)
         }
@@ -134,6 +136,7 @@ impl Boot {
             boot_step self.now ≡ Some m →
             Can s st (rule_for m) × (result ≡ Some (wanted_of s st (rule_for m))) }
     {
+        let _ = &self.own;
         let step = self.step()?;
         Some(self.wanted(step))
     }

@@ -1,6 +1,6 @@
 -- A step that what is known of a partner permits is permitted to each partition that knows this.
-use Rattle.std.proofs.Common.{◌≡◌, ℕ, Bool, true, false, cond, refl, ap, sym, ◌∙◌}
-use Rattle.std.specs.Prelude.{◌||◌, is_some, Option, Some, None}
+use Rattle.std.proofs.Common.{◌≡◌, ℕ, Bool, true, false, cond, [], ◌∷◌, length, refl, ap, sym, ◌∙◌}
+use Rattle.std.specs.Prelude.{◌||◌, if◌then◌else◌, is_some, nat_lt, Option, Some, None}
 use Rattle.xp_script.specs.declared.part.ScenarioPart.{ScenarioPart}
 use Rattle.xp_protocol.specs.declared.rule.PeerRule.{PeerRule}
 use Rattle.xp_protocol.specs.declared.rule.PeerRule.TheVariants.{AskActivation, TakeFlags, CloseArea, ZeroMagic, ClearOldBit, Prepare, OpenArea, SetEngagementBit, ReadRecord, StoreEcho, StoreSecond, ClearEngagementBit, LookAtPage, ClearDeactivationBit, TellPartner}
@@ -13,18 +13,17 @@ use Rattle.xp_protocol.specs.Wanting.{mark_with, wanted_at}
 use Rattle.xp_protocol.specs.State.{State, Peer, Up, peer_of, idle_links}
 use Rattle.xp_protocol.specs.Peering.{Here, peer_can, peer_row, copies_go_on}
 use Rattle.xp_protocol.specs.Rules.{Can, here_of, mark_for, wanted_of, peer_life}
-use Rattle.xp_engage.specs.Partner.{Partner, alone, here, row_for, step_wanted, is_made, IsStateOf, unmarked, unnumbered}
+use Rattle.xp_engage.specs.Partner.{Partner, alone, alone_by, here, row_for, step_wanted, is_made, IsStateOf, unmarked, unnumbered}
 
--- the copies that go on are none
-reading_none : (x : Partner) → copies_go_on (alone x) ≡ false → is_some x.engage.reading ≡ false
+-- the copies that go on
+copies_known : (copying : Bool) (x : Partner) → copies_go_on (alone_by copying x) ≡ (copying || is_some x.engage.reading)
 unfolding idle_links
-reading_none x h = by (is_some x.engage.reading) h where
-  by : (b : Bool) → (b || false) ≡ false → b ≡ false
-  by true e = e
-  by false e = refl
-
-no_copies : (copying reading : Bool) → copying ≡ false → reading ≡ false → (copying || reading) ≡ false
-no_copies copying reading a b = rw (a, b) refl
+copies_known copying x = by copying (is_some x.engage.reading) where
+  by : (c r : Bool) → (r || (nat_lt 0 (length {A = ℕ} (if c then 0 ∷ [] else [])) || false)) ≡ (c || r)
+  by true true = refl
+  by true false = refl
+  by false true = refl
+  by false false = refl
 
 -- over plain variables: a partner of which this is known, and what a step reads besides
 record Knows (x : Partner) (turn : ℕ) (copying : Bool) (y : Here) (p : Peer) : Type 0 where
@@ -36,33 +35,33 @@ record Knows (x : Partner) (turn : ℕ) (copying : Bool) (y : Here) (p : Peer) :
   copies : copies_go_on p ≡ (copying || is_some x.engage.reading)
 
 peer_permitted :
-    (x : Partner) (turn : ℕ) (copying : Bool) (y : Here) (p : Peer) (m : PeerRule) → Knows x turn copying y p → peer_can (here turn x) (alone x) m → (m ≡ ClearEngagementBit → copying ≡ false) →
+    (x : Partner) (turn : ℕ) (copying : Bool) (y : Here) (p : Peer) (m : PeerRule) → Knows x turn copying y p → peer_can (here turn x) (alone_by copying x) m →
     is_made m ≡ true → peer_life m ≡ Up → peer_can y p m
-peer_permitted x turn copying y p AskActivation h can k made up = rw (h.wanted, h.engage, h.look) can
-peer_permitted x turn copying y p TakeFlags h can k made up = absurd (cc)
-peer_permitted x turn copying y p CloseArea h can k made up = rw h.engage can
-peer_permitted x turn copying y p ZeroMagic h can k made up = absurd (cc)
-peer_permitted x turn copying y p ClearOldBit h can k made up = absurd (cc)
-peer_permitted x turn copying y p (Prepare word) h can k made up = rw h.engage can
-peer_permitted x turn copying y p OpenArea h can k made up = rw (h.here, h.engage, h.wanted) can
-peer_permitted x turn copying y p SetEngagementBit h can k made up = rw (h.here, h.engage, h.look) can
-peer_permitted x turn copying y p ReadRecord h can k made up = rw (h.engage, h.contact) can
-peer_permitted x turn copying y p StoreEcho h can k made up = rw h.engage can
-peer_permitted x turn copying y p StoreSecond h can k made up = rw h.engage can
-peer_permitted x turn copying y p ClearEngagementBit h can k made up =
-    let c : copies_go_on p ≡ false = h.copies ∙ no_copies copying (is_some x.engage.reading) (k refl) (reading_none x can.1) in
+peer_permitted x turn copying y p AskActivation h can made up = rw (h.wanted, h.engage, h.look) can
+peer_permitted x turn copying y p TakeFlags h can made up = absurd (cc)
+peer_permitted x turn copying y p CloseArea h can made up = rw h.engage can
+peer_permitted x turn copying y p ZeroMagic h can made up = absurd (cc)
+peer_permitted x turn copying y p ClearOldBit h can made up = absurd (cc)
+peer_permitted x turn copying y p (Prepare word) h can made up = rw h.engage can
+peer_permitted x turn copying y p OpenArea h can made up = rw (h.here, h.engage, h.wanted) can
+peer_permitted x turn copying y p SetEngagementBit h can made up = rw (h.here, h.engage, h.look) can
+peer_permitted x turn copying y p ReadRecord h can made up = rw (h.engage, h.contact) can
+peer_permitted x turn copying y p StoreEcho h can made up = rw h.engage can
+peer_permitted x turn copying y p StoreSecond h can made up = rw h.engage can
+peer_permitted x turn copying y p ClearEngagementBit h can made up =
+    let c : copies_go_on p ≡ false = h.copies ∙ (sym (copies_known copying x) ∙ can.1) in
     (rw h.engage can.0, c, rw h.engage can.2)
-peer_permitted x turn copying y p LookAtPage h can k made up = absurd (cc)
-peer_permitted x turn copying y p ClearDeactivationBit h can k made up = rw h.engage can
-peer_permitted x turn copying y p TellPartner h can k made up = rw h.engage can
+peer_permitted x turn copying y p LookAtPage h can made up = absurd (cc)
+peer_permitted x turn copying y p ClearDeactivationBit h can made up = rw h.engage can
+peer_permitted x turn copying y p TellPartner h can made up = rw h.engage can
 
 knows : (x : Partner) (turn : ℕ) (copying : Bool) (s : ScenarioPart) (st : State) → IsStateOf x turn copying s st → Knows x turn copying (here_of s st x.partner) (peer_of st x.partner)
 knows x turn copying s st h = record { here = h.here; wanted = h.wanted; look = h.look; engage = h.engage; contact = h.contact; copies = h.copies }
 
 pub can_now :
-    (x : Partner) (turn : ℕ) (copying : Bool) (s : ScenarioPart) (st : State) (m : PeerRule) → IsStateOf x turn copying s st → peer_can (here turn x) (alone x) m → (m ≡ ClearEngagementBit → copying ≡ false) →
+    (x : Partner) (turn : ℕ) (copying : Bool) (s : ScenarioPart) (st : State) (m : PeerRule) → IsStateOf x turn copying s st → peer_can (here turn x) (alone_by copying x) m →
     is_made m ≡ true → peer_life m ≡ Up → Can s st (ForPeer x.partner m)
-can_now x turn copying s st m h can k made up = (h.life ∙ sym up, (record { low = h.partner; other = λ e. h.other (e ∙ h.part) }, peer_permitted x turn copying (here_of s st x.partner) (peer_of st x.partner) m (knows x turn copying s st h) can k made up))
+can_now x turn copying s st m h can made up = (h.life ∙ sym up, (record { low = h.partner; other = λ e. h.other (e ∙ h.part) }, peer_permitted x turn copying (here_of s st x.partner) (peer_of st x.partner) m (knows x turn copying s st h) can made up))
 
 -- its word is the same
 row_known : (x : Partner) (stamp : ℕ) (p : Peer) (m : PeerRule) → p.engage ≡ x.engage → stamp ≡ x.stamp → is_made m ≡ true → peer_row x.own stamp x.partner p m ≡ peer_row x.own x.stamp x.partner (alone x) m

@@ -1,6 +1,6 @@
 -- What a partition knows of a partner, but for the ends of their channels, and what a step for the
 -- partner makes of it: what the rules say of any partner of which this is known.
-use Rattle.std.specs.Prelude.{◌≡◌, ℕ, ◌*◌, ◌-◌, ◌^◌, ◌<◌, Bool, true, false, ◌||◌, is_some, List, [], Option, Some, None}
+use Rattle.std.specs.Prelude.{◌≡◌, ℕ, ◌*◌, ◌-◌, ◌^◌, ◌<◌, Bool, true, false, ◌||◌, is_some, if◌then◌else◌, List, [], ◌∷◌, Option, Some, None}
 use Rattle.xp_base.specs.declared.reason.Reason.{Reason}
 use Rattle.xp_base.specs.declared.step.Answer.{Answer}
 use Rattle.xp_base.specs.declared.step.Answer.TheVariants.{Failed}
@@ -10,11 +10,11 @@ use Rattle.xp_script.specs.declared.part.ScenarioPart.{ScenarioPart}
 use Rattle.xp_protocol.specs.declared.contact.Look.{Look}
 use Rattle.xp_protocol.specs.declared.contact.Look.TheVariants.{Unseen}
 use Rattle.xp_protocol.specs.declared.rule.PeerRule.{PeerRule}
-use Rattle.xp_protocol.specs.declared.rule.PeerRule.TheVariants.{TakeFlags, LookAtPage, ReadRecord, Prepare}
+use Rattle.xp_protocol.specs.declared.rule.PeerRule.TheVariants.{TakeFlags, LookAtPage, ReadRecord, Prepare, OpenArea}
 use Rattle.xp_protocol.specs.Effects.{Effect, Note, Row}
 use Rattle.xp_protocol.specs.State.{State, Up, Peer, peer_of, Engage, Contact, warm_engage, first_contact, idle_links, none_going}
-use Rattle.xp_protocol.specs.Peering.{Here, peer_row, peer_effect, copies_go_on, IsAreaWord}
-use Rattle.xp_protocol.specs.Rules.{here_of, peer_answered}
+use Rattle.xp_protocol.specs.Peering.{Here, peer_can, peer_row, peer_effect, copies_go_on, IsAreaWord}
+use Rattle.xp_protocol.specs.Rules.{here_of, peer_answered, peer_life}
 use Rattle.xp_protocol.specs.Wanting.{mark_with, wanted_at}
 
 -- the partition and the partner by their numbers, for how many turns backing off lasts, the stamp of
@@ -50,19 +50,22 @@ warm_partner own partner window = record (new_partner own partner 1 warm_engage 
   contact = Some first_contact;
 }
 
--- the partner as the rules see it, with no end of a channel and no copy that goes on but that of its
--- record
-abbrev pub alone : Partner → Peer
-alone x = record {
+-- the partner as the rules see it, with no end of a channel. Where another copy of its words goes on
+-- than that of its record, a look stands for it
+abbrev pub alone_by : Bool → Partner → Peer
+alone_by copying x = record {
   wanted = x.wanted;
   look = x.look;
-  paging = [];
+  paging = if copying then 0 ∷ [] else [];
   numbers = record { pages = 0; records = 0 };
   engage = x.engage;
   contact = x.contact;
   links = idle_links;
   going = none_going;
 }
+
+abbrev pub alone : Partner → Peer
+alone x = alone_by false x
 
 abbrev pub seen_in : Partner → Peer → Partner
 seen_in x p = record x {
@@ -118,10 +121,18 @@ abbrev pub is_copy : PeerRule → Bool
 is_copy ReadRecord = true
 is_copy m = false
 
--- the word that is stored before the memory is opened is one of it, and there is a session left
+-- a word that is stored before the memory is opened is one of it; and there is a session left
 abbrev pub IsStorable : Partner → PeerRule → Type 0
 IsStorable x (Prepare word) = IsAreaWord word × (x.engage.count < 2 ^ 32 - 1)
+IsStorable x OpenArea = x.engage.count < 2 ^ 32 - 1
 IsStorable x m = Unit {0}
+
+-- a step that is permitted where another copy goes on or not
+pub record IsPermitted (turn : ℕ) (copying : Bool) (x : Partner) (m : PeerRule) : Type 0 where
+  pub made : is_made m ≡ true
+  pub storable : IsStorable x m
+  pub up : peer_life m ≡ Up
+  pub can : peer_can (here turn x) (alone_by copying x) m
 
 pub record IsMade (m : PeerRule) (a : Answer) : Type 0 where
   pub made : is_made m ≡ true

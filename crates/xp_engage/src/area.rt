@@ -1,10 +1,10 @@
 // The parts of what is kept for a partner.
-ghost use Rattle.std.specs.Prelude.{◌≡◌, IfSome};
+ghost use Rattle.std.specs.Prelude.{◌≡◌, ◌+◌, ◌<◌, ◌≤◌, ◌&&◌, IfSome, nat_eq};
 ghost use Rattle.xp_protocol.specs.Peering.{IsAreaWord};
-ghost use Rattle.xp_engage.specs.Next.{place_missing};
-ghost use Rattle.xp_engage.specs.Stored.{missing_in};
+ghost use Rattle.xp_plan.specs.PeerSteps.{field_of, unset_from};
+ghost use Rattle.xp_engage.specs.Stored.{missing_in, words_missing_in};
 
-use xp_base::layout::{ARGS_WORDS, COUNTER_WORDS};
+use xp_base::layout::{ARGS_WORDS, CHANNELS, COUNTER_WORDS};
 use xp_base::reason::Reason;
 use xp_protocol::rule::{AreaWord, RecordField};
 
@@ -105,7 +105,6 @@ pub struct Exchange {
 
 impl StoredWords {
     /// The first word that wasn't stored, of all that are stored before the memory is opened.
-    #[tactic(auto, using(crate::proofs::Missing::missing_16, crate::proofs::Missing::missing_8))]
     pub fn missing(&self) -> Option<AreaWord>
         ensures value { result ≡ missing_in self.now }
         ensures word { IfSome result (λ word. IsAreaWord word) }
@@ -116,33 +115,65 @@ impl StoredWords {
             Some(AreaWord::EchoWord)
         } else if !self.flags {
             Some(AreaWord::FlagWord)
-        } else if self.places != ALL_PLACES {
-            Some(AreaWord::PlaceWord(self.missing_place()))
-        } else if self.args != u16::MAX {
-            let number = self.args.trailing_ones() as u8;
-            Some(AreaWord::ArgsWord(number / ARGS_WORDS as u8, number % ARGS_WORDS as u8))
-        } else if self.counters != u8::MAX {
-            let number = self.counters.trailing_ones() as u8;
-            Some(AreaWord::CounterWord(number / COUNTER_WORDS as u8, number % COUNTER_WORDS as u8))
         } else {
-            None
+            self.missing_by_bits()
         }
     }
 
-    // The first of the record's other words that wasn't stored.
-    fn missing_place(&self) -> RecordField
-        ensures { result ≡ place_missing self.now.places }
+    // The first of those of which there is a bit for each.
+    fn missing_by_bits(&self) -> Option<AreaWord>
+        ensures value { result ≡ words_missing_in self.now }
+        ensures word { IfSome result (λ word. IsAreaWord word) }
     {
-        if (self.places >> 3) % 2 == 0 {
-            RecordField::ArgsPlace
-        } else if (self.places >> 4) % 2 == 0 {
-            RecordField::CountersPlace
-        } else if (self.places >> 5) % 2 == 0 {
-            RecordField::FlagPlace
-        } else if (self.places >> 6) % 2 == 0 {
-            RecordField::ChannelCount
-        } else {
-            RecordField::Spare
+        if let Some(number) = first_unset(self.places as u64, 3, 5) {
+            return Some(AreaWord::PlaceWord(field_of(number)));
         }
+        if let Some(number) = first_unset(self.args as u64, 0, CHANNELS * ARGS_WORDS as u8) {
+            return Some(AreaWord::ArgsWord(number / ARGS_WORDS as u8, number % ARGS_WORDS as u8));
+        }
+        let number = first_unset(self.counters as u64, 0, CHANNELS * COUNTER_WORDS as u8)?;
+        Some(AreaWord::CounterWord(number / COUNTER_WORDS as u8, number % COUNTER_WORDS as u8))
+    }
+
+    /// Whether each of them was stored.
+    pub fn is_whole(&self) -> bool
+        ensures { result ≡ (self.now.session && (self.now.echo && (self.now.flags
+            && (nat_eq self.now.counters 255
+            && (nat_eq self.now.places 248 && nat_eq self.now.args 65535))))) }
+    {
+        self.session
+            && self.echo
+            && self.flags
+            && self.counters == u8::MAX
+            && self.places == ALL_PLACES
+            && self.args == u16::MAX
+    }
+}
+
+// The first of `count` bits from bit `from` on that isn't set.
+fn first_unset(mask: u64, from: u8, count: u8) -> Option<u8>
+    requires { from + count ≤ 64 }
+    ensures value { result ≡ unset_from from count mask }
+    ensures range { IfSome result (λ n. n < from + count) }
+{
+    if count == 0 {
+        None
+    } else if (mask >> from) % 2 == 0 {
+        Some(from)
+    } else {
+        first_unset(mask, from + 1, count - 1)
+    }
+}
+
+// Which word of a record stands at this number.
+fn field_of(number: u8) -> RecordField
+    ensures { result ≡ field_of number }
+{
+    match number {
+        3 => RecordField::ArgsPlace,
+        4 => RecordField::CountersPlace,
+        5 => RecordField::FlagPlace,
+        6 => RecordField::ChannelCount,
+        _ => RecordField::Spare,
     }
 }

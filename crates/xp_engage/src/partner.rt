@@ -1,7 +1,6 @@
 // What is kept for a partner, as a machine.
-ghost use Rattle.std.specs.Prelude.{◌≡◌, ◌≢◌, ℕ, ◌<◌, ◌*◌, ◌-◌, ◌^◌, IfSome, IsSome, Some, None, true, false};
-ghost use Rattle.xp_protocol.specs.State.{Up, Off, Ready, Leaving, booted_engage, cold_engage};
-ghost use Rattle.xp_protocol.specs.declared.contact.PartnerState.TheVariants.{Activating};
+ghost use Rattle.std.specs.Prelude.{◌≡◌, ◌&&◌, nat_lt, Bool, ℕ, ◌<◌, ◌*◌, ◌-◌, ◌^◌, IfSome, IsSome, Some, None, true, false};
+ghost use Rattle.xp_protocol.specs.State.{Off, booted_engage, cold_engage};
 ghost use Rattle.xp_base.specs.declared.step.OpKind.TheVariants.{Or, Store};
 ghost use Rattle.xp_base.specs.declared.layout.TheConstants.{RECORD_WORDS};
 ghost use Rattle.xp_base.specs.declared.reason.Reason.TheVariants.{CopyError};
@@ -10,17 +9,18 @@ ghost use Rattle.xp_script.specs.declared.part.ScenarioPart.{ScenarioPart};
 ghost use Rattle.xp_protocol.specs.State.{State};
 ghost use Rattle.xp_protocol.specs.declared.rule.PeerRule.{PeerRule};
 ghost use Rattle.xp_protocol.specs.declared.rule.Rule.TheVariants.{Peer as ForPeer};
-ghost use Rattle.xp_protocol.specs.Rules.{Can, peer_life, wanted_of};
-ghost use Rattle.xp_protocol.specs.Peering.{is_good, IsAreaWord, field_number, field_word, peer_can, may_open, try_contact, magic_read, place_read, last_read, record_read, is_wrong, look_reason, freed_engage};
+ghost use Rattle.xp_protocol.specs.Rules.{Can, wanted_of};
+ghost use Rattle.xp_protocol.specs.Peering.{is_good, IsAreaWord, field_number, field_word, may_open, is_off, is_prepared, copies_go_on, try_contact, magic_read, place_read, last_read, record_read, is_wrong, look_reason, freed_engage};
 ghost use Rattle.xp_engage.specs.PartnerInside.{area_seen, going};
-ghost use Rattle.xp_engage.specs.Partner.{new_partner, warm_partner, alone, seen_in, here, step_wanted, made, stepped, step_reason, is_made, is_copy, IsStorable, IsMade, MayAnswer, IsStateOf, unnumbered};
-ghost use Rattle.xp_engage.specs.Next.{partner_next, off_next, state_next, activating_next, leaving_next, has_waited, is_copying, wanted_for};
+ghost use Rattle.xp_engage.specs.Partner.{new_partner, warm_partner, alone, alone_by, seen_in, here, step_wanted, made, stepped, step_reason, is_made, is_copy, IsStorable, IsPermitted, IsMade, MayAnswer, IsStateOf, unnumbered};
+ghost use Rattle.xp_plan.specs.PeerSteps.{prepare_at, engage_at, answer_at, record_at, leave_at, is_open_to, has_waited};
+ghost use Rattle.xp_engage.specs.Next.{partner_next, for_partner, wanted_for};
 ghost use Rattle.xp_engage.specs.Learning.{faulted, fed, wanted_as, shown_by, stamp_shown, looked_at, heard, engaged_by, is_freed, sessions_of, state_told};
 
 use crate::area::{AreaState, Exchange, OwnArea, OwnBit, PartnerState, RecordCopy, StoredWords};
 use std::marker::Model;
 use xp_base::ids::{Channel, PartId};
-use xp_base::layout::{ACTIVATION, CHANNELS, DEACTIVATION, ENGAGED, FIRST, SECOND};
+use xp_base::layout::{ACTIVATION, CHANNELS, DEACTIVATION, ENGAGED, FIRST, RECORD_WORDS, SECOND};
 use xp_base::masks::{bit, contains};
 use xp_base::places::{args, counters, flag_word, record};
 use xp_base::reason::Reason;
@@ -28,7 +28,7 @@ use xp_base::session::Session;
 use xp_base::step::{Answer, CopyKind, CopyMark, Op, OpKind, Wanted};
 use xp_discover::look::LookAnswer;
 use xp_protocol::contact::{Contact, Look, PartnerState as Standing};
-use xp_protocol::rule::{AreaWord, PeerRule, RecordField};
+use xp_protocol::rule::{AreaWord, OwnRule, PeerRule, RecordField, Rule};
 
 /// What a partition keeps for a partner, but for the ends of their channels. Contracts see what is
 /// known of it.
@@ -178,147 +178,172 @@ impl PartnerEnd {
     }
 }
 
-// What comes next.
+// What comes next, by errand: each step is one that the rules permit.
 impl PartnerEnd {
-    /// The step for the partner that comes next in this turn; `copying` tells whether another copy of
-    /// the partner's words goes on than that of its record.
-    pub fn plan(&self, turn: u64, copying: bool) -> Option<PeerRule>
-        ensures value { result ≡ partner_next turn copying self.now }
-        ensures made { IfSome result (λ m. is_made m ≡ true) }
-        ensures storable { IfSome result (λ m. IsStorable self.now m) }
-        ensures can { IfSome result (λ m. peer_can (here turn self.now) (alone self.now) m) }
-        ensures up { IfSome result (λ m. peer_life m ≡ Up) }
-        ensures copies { result ≡ Some PeerRule.ClearEngagementBit → copying ≡ false }
+    /// The own memory is closed to a partner that is to be deactivated, and left; `copying` tells
+    /// whether another copy of the partner's words goes on than that of its record.
+    #[tactic(auto, unfolding(xp_protocol::specs::State::idle_links))]
+    pub fn leave_step(&self, copying: bool) -> Option<PeerRule>
+        ensures value { result ≡ leave_at (alone_by copying self.now) }
+        ensures permitted { (turn : ℕ) →
+            IfSome result (λ m. IsPermitted turn copying self.now m) }
     {
         match self.area.state {
-            AreaState::Old => None,
-            AreaState::Off => self.plan_off(),
-            AreaState::Ready => {
-                if self.reason.is_some() {
-                    Some(PeerRule::CloseArea)
+            AreaState::Old | AreaState::Off => None,
+            AreaState::Ready => self.reason.map(|_| PeerRule::CloseArea),
+            AreaState::Leaving => {
+                if !self.bit.is_in {
+                    None
+                } else if !self.area.told {
+                    Some(PeerRule::TellPartner)
+                } else if self.is_copying(copying) {
+                    None
                 } else {
-                    self.plan_ready(turn, copying)
+                    Some(PeerRule::ClearEngagementBit)
                 }
             }
-            AreaState::Leaving => self.plan_leaving(copying),
         }
     }
 
-    // A free area is prepared and opened.
-    fn plan_off(&self) -> Option<PeerRule>
-        requires { self.now.engage.area ≡ Off }
-        ensures value { result ≡ off_next self.now }
-        ensures made { IfSome result (λ m. is_made m ≡ true) }
-        ensures storable { IfSome result (λ m. IsStorable self.now m) }
-        ensures can { (turn : ℕ) → IfSome result (λ m. peer_can (here turn self.now)
-            (alone self.now) m) }
-        ensures up { IfSome result (λ m. peer_life m ≡ Up) }
-        ensures copies { result ≢ Some PeerRule.ClearEngagementBit }
+    /// The own memory for a partner that is wanted is prepared and opened where it is free; the
+    /// partition stores its mask before.
+    pub fn prepare_step(&self) -> Option<Rule>
+        ensures value { result ≡ prepare_at self.now.masked self.now.partner (alone self.now) }
+        ensures permitted { (turn : ℕ) (copying : Bool) →
+            IfSome (for_partner result) (λ m. IsPermitted turn copying self.now m) }
     {
-        if !self.wanted || self.area.count == u32::MAX {
+        let q = self.partner.get();
+        if !self.is_free() {
             None
         } else if !self.area.deactivation_cleared {
-            Some(PeerRule::ClearDeactivationBit)
+            Some(Rule::Peer(q, PeerRule::ClearDeactivationBit))
         } else if let Some(word) = self.area.stored.missing() {
-            Some(PeerRule::Prepare(word))
-        } else if self.masked {
-            Some(PeerRule::OpenArea)
-        } else {
+            Some(Rule::Peer(q, PeerRule::Prepare(word)))
+        } else if !self.is_prepared() {
             None
+        } else if self.masked {
+            Some(Rule::Peer(q, PeerRule::OpenArea))
+        } else {
+            Some(Rule::Own(OwnRule::StoreMask))
         }
     }
 
-    // The partner is asked, engaged, and read until there is contact.
-    fn plan_ready(&self, turn: u64, copying: bool) -> Option<PeerRule>
-        requires area { self.now.engage.area ≡ Ready }
-        requires free { self.now.engage.reason ≡ None }
-        ensures value { result ≡ state_next turn copying self.now self.now.engage.state }
-        ensures made { IfSome result (λ m. is_made m ≡ true) }
-        ensures storable { IfSome result (λ m. IsStorable self.now m) }
-        ensures can { IfSome result (λ m. peer_can (here turn self.now) (alone self.now) m) }
-        ensures up { IfSome result (λ m. peer_life m ≡ Up) }
-        ensures copies { result ≡ Some PeerRule.ClearEngagementBit → copying ≡ false }
+    // Whether the own memory is free for a partner that is wanted, and a session is left.
+    fn is_free(&self) -> bool
+        ensures { result ≡ (is_off self.now.engage.area
+            && (self.now.wanted && nat_lt self.now.engage.count 4294967295)) }
     {
+        matches!(self.area.state, AreaState::Off) && self.wanted && self.area.count < u32::MAX
+    }
+
+    // Whether all was stored that opening the own memory asks.
+    fn is_prepared(&self) -> bool
+        ensures { result ≡ is_prepared self.now.engage }
+    {
+        self.area.stored.is_whole() && self.area.deactivation_cleared && self.area.count < u32::MAX
+    }
+
+    /// A partner whose page is good is asked to be activated, and then the own bit is set at it.
+    pub fn engage_step(&self, turn: u64) -> Option<PeerRule>
+        ensures value { result ≡ engage_at (here turn self.now) (alone self.now) }
+        ensures permitted { (copying : Bool) →
+            IfSome result (λ m. IsPermitted turn copying self.now m) }
+    {
+        if !self.is_open() || self.bit.is_in || !is_good(self.look) {
+            return None;
+        }
         match self.state {
             Standing::Inactive => {
-                if self.wanted && is_good(self.look) {
+                if self.wanted {
                     Some(PeerRule::AskActivation)
                 } else {
                     None
                 }
             }
             Standing::Requested => {
-                if !self.bit.is_in && is_good(self.look) && self.has_waited(turn) {
+                if self.has_waited(turn) {
                     Some(PeerRule::SetEngagementBit)
                 } else {
                     None
                 }
             }
-            Standing::Activating => {
-                if self.bit.is_in {
-                    self.plan_activating(copying)
-                } else {
-                    None
-                }
-            }
-            Standing::Active | Standing::Deactivating => None,
+            Standing::Activating | Standing::Active | Standing::Deactivating => None,
         }
     }
 
-    // With the own bit at the partner.
+    /// The own bit goes where the partner's memory isn't open, once no copy of its words goes on;
+    /// the session that was read is stored as echo, and then the second magic.
     #[tactic(auto, unfolding(xp_protocol::specs::State::idle_links))]
-    fn plan_activating(&self, copying: bool) -> Option<PeerRule>
-        requires area { self.now.engage.area ≡ Ready }
-        requires free { self.now.engage.reason ≡ None }
-        requires bit { self.now.engage.bit ≡ true }
-        requires state { self.now.engage.state ≡ Activating }
-        ensures value { result ≡ activating_next copying self.now }
-        ensures made { IfSome result (λ m. is_made m ≡ true) }
-        ensures storable { IfSome result (λ m. IsStorable self.now m) }
-        ensures can { (turn : ℕ) → IfSome result (λ m. peer_can (here turn self.now)
-            (alone self.now) m) }
-        ensures up { IfSome result (λ m. peer_life m ≡ Up) }
-        ensures copies { result ≡ Some PeerRule.ClearEngagementBit → copying ≡ false }
+    pub fn answer_step(&self, copying: bool) -> Option<PeerRule>
+        ensures value { result ≡ answer_at (alone_by copying self.now) }
+        ensures permitted { (turn : ℕ) →
+            IfSome result (λ m. IsPermitted turn copying self.now m) }
     {
+        if !self.is_open() {
+            return None;
+        }
         let has_echo = self.exchange.echo.is_some();
-        if self.bit.back_off && !has_echo {
-            if self.is_copying(copying) {
+        if self.bit.is_in && self.bit.back_off && !has_echo && !self.is_copying(copying) {
+            Some(PeerRule::ClearEngagementBit)
+        } else if has_echo {
+            if self.area.second {
                 None
             } else {
-                Some(PeerRule::ClearEngagementBit)
+                Some(PeerRule::StoreSecond)
             }
-        } else if !has_echo && self.exchange.read.is_some() {
+        } else if self.bit.is_in && self.exchange.read.is_some() {
             Some(PeerRule::StoreEcho)
-        } else if has_echo && !self.area.second {
-            Some(PeerRule::StoreSecond)
-        } else if self.contact.is_some() {
-            None
         } else {
-            Some(PeerRule::ReadRecord)
+            None
         }
     }
 
-    // An area that is being left.
-    #[tactic(auto, unfolding(xp_protocol::specs::State::idle_links))]
-    fn plan_leaving(&self, copying: bool) -> Option<PeerRule>
-        requires { self.now.engage.area ≡ Leaving }
-        ensures value { result ≡ leaving_next copying self.now.engage }
-        ensures made { IfSome result (λ m. is_made m ≡ true) }
-        ensures storable { IfSome result (λ m. IsStorable self.now m) }
-        ensures can { (turn : ℕ) → IfSome result (λ m. peer_can (here turn self.now)
-            (alone self.now) m) }
-        ensures up { IfSome result (λ m. peer_life m ≡ Up) }
-        ensures copies { result ≡ Some PeerRule.ClearEngagementBit → copying ≡ false }
+    /// The partner's record is read until there is contact. A copy is begun by the first
+    /// `RECORD_WORDS` steps of an errand, and made to its end.
+    pub fn record_step(&self, used: u8) -> Option<PeerRule>
+        ensures value { result ≡ record_at used (alone self.now) }
+        ensures permitted { (turn : ℕ) (copying : Bool) →
+            IfSome result (λ m. IsPermitted turn copying self.now m) }
     {
-        if !self.bit.is_in {
-            None
-        } else if !self.area.told {
-            Some(PeerRule::TellPartner)
-        } else if self.is_copying(copying) {
-            None
+        let is_activating = matches!(self.state, Standing::Activating);
+        let may_read = self.is_open()
+            && self.bit.is_in
+            && is_activating
+            && self.contact.is_none()
+            && !self.bit.back_off;
+        if may_read && (self.exchange.copy.is_some() || (used as u32) < RECORD_WORDS) {
+            Some(PeerRule::ReadRecord)
         } else {
-            Some(PeerRule::ClearEngagementBit)
+            None
         }
+    }
+
+    /// The step for the partner that comes next in this turn, whatever its errand; `copying` tells
+    /// whether another copy of the partner's words goes on than that of its record.
+    pub fn plan(&self, turn: u64, copying: bool) -> Option<PeerRule>
+        ensures value { result ≡ partner_next turn copying self.now }
+        ensures permitted { IfSome result (λ m. IsPermitted turn copying self.now m) }
+    {
+        if let Some(rule) = self.leave_step(copying) {
+            return Some(rule);
+        }
+        if let Some(Rule::Peer(_, rule)) = self.prepare_step() {
+            return Some(rule);
+        }
+        if let Some(rule) = self.engage_step(turn) {
+            return Some(rule);
+        }
+        if let Some(rule) = self.answer_step(copying) {
+            return Some(rule);
+        }
+        self.record_step(0)
+    }
+
+    // Whether the own memory is open, and no reason to deactivate the partner stands.
+    fn is_open(&self) -> bool
+        ensures { result ≡ is_open_to self.now.engage }
+    {
+        matches!(self.area.state, AreaState::Ready) && self.reason.is_none()
     }
 
     // Whether so many turns have passed since the own bit was cleared.
@@ -332,8 +357,9 @@ impl PartnerEnd {
     }
 
     // Whether a copy of the partner's words goes on.
+    #[tactic(auto, unfolding(xp_protocol::specs::State::idle_links))]
     fn is_copying(&self, others: bool) -> bool
-        ensures { result ≡ is_copying others self.now.engage }
+        ensures { result ≡ copies_go_on (alone_by others self.now) }
     {
         others || self.exchange.copy.is_some()
     }
@@ -536,7 +562,7 @@ impl PartnerEnd {
     #[tactic(auto, using(crate::proofs::Stepping::made_alike))]
     pub fn step(&mut self, rule: PeerRule, turn: u64, answer: Answer) -> Option<Reason>
         requires made { IsMade rule answer }
-        requires can { peer_can (here turn self.old) (alone self.old) rule }
+        requires storable { IsStorable self.old rule }
         ensures partner { self.new ≡ stepped turn self.old rule answer }
         ensures reason { result ≡ step_reason turn self.old rule answer }
     {
@@ -586,7 +612,7 @@ impl PartnerEnd {
     fn make(&mut self, rule: PeerRule, turn: u64)
         requires made { is_made rule ≡ true }
         requires other { is_copy rule ≡ false }
-        requires can { peer_can (here turn self.old) (alone self.old) rule }
+        requires storable { IsStorable self.old rule }
         ensures { self.new ≡ made turn self.old rule 0 }
     {
         match rule {
@@ -926,12 +952,7 @@ impl PartnerEnd {
     pub fn prepared(&self) -> bool
         ensures { result ≡ may_open (alone self.now) }
     {
-        let is_off = matches!(self.area.state, AreaState::Off);
-        is_off
-            && self.wanted
-            && self.area.deactivation_cleared
-            && self.area.count < u32::MAX
-            && self.area.stored.missing().is_none()
+        matches!(self.area.state, AreaState::Off) && self.wanted && self.is_prepared()
     }
 
     /// How the partition stands to the partner.
