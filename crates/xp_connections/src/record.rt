@@ -1,4 +1,5 @@
-// The record of one connection as one of its ends saw it, and for how many notes its lists have room.
+// The record of one connection as one of its ends saw it, and for how many notes its lists have
+// room.
 ghost use Rattle.std.specs.Prelude.{◌≡◌, ◌<◌, ◌≤◌, ◌-◌, ◌+◌, OnOk, Some, length, slice_get, true, false};
 ghost use Rattle.xp_protocol.specs.Records.{blank_record, has_begun, has_taken, has_released, has_acked, has_delivered, has_ended, has_over, has_connected};
 ghost use Rattle.xp_protocol.specs.Effects.{accepted_in};
@@ -11,8 +12,9 @@ use xp_base::layout::LINES;
 use xp_base::reason::Reason;
 use xp_base::session::Session;
 
-/// How many notes a node makes at most on one end in one turn: a release that is begun, a message that is accepted, the
-/// notices of a whole queue, and a message that is taken. No list of a record grows by more in a turn.
+/// How many notes a node makes at most on one end in one turn: a release that is begun, a message
+/// that is accepted, the notices of a whole queue, and a message that is taken. No list of a record
+/// grows by more in a turn.
 pub const TURN_ROOM: u32 = LINES + 3;
 
 /// The bodies of messages, in their order.
@@ -61,8 +63,9 @@ impl Numbers {
     }
 }
 
-/// A connection as one of its ends saw it: which one it is, and what came of it. Contracts see what it says, for how many notes its
-/// lists have room, and for how many numbers of which the end of the connection is told.
+/// A connection as one of its ends saw it: which one it is, and what came of it. Contracts see what
+/// it says, for how many notes its lists have room, and for how many numbers of which the end of
+/// the connection is told.
 #[derive(Drop)]
 pub struct Record {
     pub partner: PartId,
@@ -178,7 +181,8 @@ impl Record {
 impl Record {
     /// The connection is begun: in which epoch, and under which sessions.
     pub fn begin(&mut self, epoch: u64, own: Session, theirs: Session)
-        ensures { self.new ≡ record self.old { said = has_begun epoch own theirs false self.old.said } }
+        ensures { self.new ≡ record self.old
+            { said = has_begun epoch own theirs false self.old.said } }
     {
         self.epoch = epoch;
         self.own = own;
@@ -196,7 +200,8 @@ impl Record {
     /// A message was accepted, whose send asked for a notice or didn't.
     pub fn note_accepted(&mut self, number: u64, body: &Body, asks: bool)
         requires { 0 < self.old.calls }
-        ensures { self.new ≡ record self.old { said = accepted_in number body.now asks self.old.said; calls = self.old.calls - 1 } }
+        ensures { self.new ≡ record self.old
+            { said = accepted_in number body.now asks self.old.said; calls = self.old.calls - 1 } }
     {
         let _ = self.accepted.list.push(body.copy());
         if asks {
@@ -208,7 +213,8 @@ impl Record {
     /// A message was taken.
     pub fn note_taken(&mut self, body: &Body)
         requires { 0 < self.old.calls }
-        ensures { self.new ≡ record self.old { said = has_taken body.now self.old.said; calls = self.old.calls - 1 } }
+        ensures { self.new ≡ record self.old
+            { said = has_taken body.now self.old.said; calls = self.old.calls - 1 } }
     {
         let _ = self.taken.list.push(body.copy());
         self.calls -= 1;
@@ -217,7 +223,8 @@ impl Record {
     /// The release of a message was begun.
     pub fn note_released(&mut self, number: u64)
         requires { 0 < self.old.calls }
-        ensures { self.new ≡ record self.old { said = has_released number self.old.said; calls = self.old.calls - 1 } }
+        ensures { self.new ≡ record self.old
+            { said = has_released number self.old.said; calls = self.old.calls - 1 } }
     {
         let _ = self.released.list.push(number);
         self.calls -= 1;
@@ -233,7 +240,8 @@ impl Record {
     /// The delivery of a message was told.
     pub fn note_delivered(&mut self, number: u64)
         requires { 0 < self.old.calls }
-        ensures { self.new ≡ record self.old { said = has_delivered number self.old.said; calls = self.old.calls - 1 } }
+        ensures { self.new ≡ record self.old
+            { said = has_delivered number self.old.said; calls = self.old.calls - 1 } }
     {
         let _ = self.delivered.list.push(number);
         self.calls -= 1;
@@ -242,7 +250,8 @@ impl Record {
     /// A message whose sender asked for a notice was still undelivered when the connection ended.
     pub fn note_ended(&mut self, number: u64)
         requires { 0 < self.old.ends }
-        ensures { self.new ≡ record self.old { said = has_ended number self.old.said; ends = self.old.ends - 1 } }
+        ensures { self.new ≡ record self.old
+            { said = has_ended number self.old.said; ends = self.old.ends - 1 } }
     {
         let _ = self.ended.list.push(number);
         self.ends -= 1;

@@ -14,8 +14,9 @@ use xp_base::ids::{Channel, PartId};
 use xp_base::reason::Reason;
 use xp_base::session::Session;
 
-/// The records of an end's connections, and why those of this boot ended. Contracts see them, the newest record first, whether its
-/// connection is still going on, for how many notes it has room, and for how many more connections there is a place.
+/// The records of an end's connections, and why those of this boot ended. Contracts see them, the
+/// newest record first, whether its connection is still going on, for how many notes it has room,
+/// and for how many more connections there is a place.
 #[derive(Drop)]
 pub struct Records {
     alloc: Global,
@@ -46,7 +47,17 @@ impl Model for Records {
 impl Records {
     /// No records. It keeps the allocator, and takes no memory.
     pub fn new(alloc: Global, partner: PartId, channel: Channel) -> Records
-        ensures { result ≡ record { partner = partner; channel = channel; said = []; closed = []; ongoing = false; calls = TURN_ROOM; ends = LINES; next = 0 } }
+        ensures { result ≡ record {
+          partner = partner;
+          channel = channel;
+          said = [];
+          closed = [];
+          ongoing = false;
+          calls =
+              TURN_ROOM;
+          ends = LINES;
+          next = 0;
+        } }
     {
         Records {
             alloc,
@@ -132,10 +143,12 @@ impl Records {
         }
     }
 
-    /// A connection is begun: in which epoch, and under which sessions. Its record has no room for notes yet.
+    /// A connection is begun: in which epoch, and under which sessions. Its record has no room for
+    /// notes yet.
     pub fn begin(&mut self, epoch: u64, own: Session, theirs: Session)
         requires { 0 < self.old.next }
-        ensures { let said = has_begun epoch own theirs false (blank_record self.old.partner self.old.channel) ∷ self.old.said in
+        ensures { let said = has_begun epoch own theirs false
+            (blank_record self.old.partner self.old.channel) ∷ self.old.said in
             self.new ≡ record self.old { said = said; ongoing = true; calls = 0; ends = 0; next = self.old.next - 1 } }
     {
         let mut record = Record::blank(self.alloc, self.partner, self.channel);
@@ -189,7 +202,12 @@ impl Records {
     #[tactic(auto, using(crate::proofs::Newest::last_is, crate::proofs::Newest::last_set))]
     pub fn note_accepted(&mut self, number: u64, body: &Body, asks: bool)
         requires { 0 < self.old.calls }
-        ensures records { self.new ≡ record self.old { said = in_newest (BySend (Accepted number body.now asks)) self.old.said; calls = self.new.calls } }
+        ensures records { self.new ≡
+            record self.old {
+              said = in_newest (BySend (Accepted number body.now asks))
+                  self.old.said;
+              calls = self.new.calls;
+            } }
         ensures calls { self.old.calls ≤ self.new.calls + 1 }
     {
         if self.list.is_empty() {
@@ -204,7 +222,12 @@ impl Records {
     #[tactic(auto, using(crate::proofs::Newest::last_is, crate::proofs::Newest::last_set))]
     pub fn note_taken(&mut self, body: &Body)
         requires { 0 < self.old.calls }
-        ensures records { self.new ≡ record self.old { said = in_newest (Taken body.now) self.old.said; calls = self.new.calls } }
+        ensures records { self.new ≡
+            record self.old {
+              said = in_newest (Taken body.now) self.old.said;
+              calls =
+                  self.new.calls;
+            } }
         ensures calls { self.old.calls ≤ self.new.calls + 1 }
     {
         if self.list.is_empty() {
@@ -219,7 +242,11 @@ impl Records {
     #[tactic(auto, using(crate::proofs::Newest::last_is, crate::proofs::Newest::last_set))]
     pub fn note_released(&mut self, number: u64)
         requires { 0 < self.old.calls }
-        ensures records { self.new ≡ record self.old { said = in_newest (Freed number) self.old.said; calls = self.new.calls } }
+        ensures records { self.new ≡
+            record self.old {
+              said = in_newest (Freed number) self.old.said;
+              calls = self.new.calls;
+            } }
         ensures calls { self.old.calls ≤ self.new.calls + 1 }
     {
         if self.list.is_empty() {
@@ -247,7 +274,8 @@ impl Records {
     #[tactic(auto, using(crate::proofs::Newest::last_is, crate::proofs::Newest::last_set))]
     pub fn note_delivered(&mut self, number: u64)
         requires { 0 < self.old.calls }
-        ensures records { self.new ≡ record self.old { said = in_newest (Told number) self.old.said; calls = self.new.calls } }
+        ensures records { self.new ≡
+            record self.old { said = in_newest (Told number) self.old.said; calls = self.new.calls } }
         ensures calls { self.old.calls ≤ self.new.calls + 1 }
     {
         if self.list.is_empty() {
@@ -258,11 +286,16 @@ impl Records {
         newest.note_delivered(number);
     }
 
-    /// A message whose sender asked for a notice was still undelivered when the newest connection ended.
+    /// A message whose sender asked for a notice was still undelivered when the newest connection
+    /// ended.
     #[tactic(auto, using(crate::proofs::Newest::last_is, crate::proofs::Newest::last_set))]
     pub fn note_ended(&mut self, number: u64)
         requires { 0 < self.old.ends }
-        ensures records { self.new ≡ record self.old { said = in_newest (ToldOver number) self.old.said; ends = self.new.ends } }
+        ensures records { self.new ≡
+            record self.old {
+              said = in_newest (ToldOver number) self.old.said;
+              ends = self.new.ends;
+            } }
         ensures ends { self.old.ends ≤ self.new.ends + 1 }
     {
         if self.list.is_empty() {
@@ -273,11 +306,16 @@ impl Records {
         newest.note_ended(number);
     }
 
-    /// The newest connection is over for a reason, which is kept for the commands that wait for its end.
+    /// The newest connection is over for a reason, which is kept for the commands that wait for its
+    /// end.
     #[tactic(auto, using(crate::proofs::Newest::last_is, crate::proofs::Newest::last_set))]
     pub fn note_over(&mut self, reason: Reason)
         requires { self.old.ongoing ≡ true }
-        ensures { self.new ≡ record self.old { said = in_newest (Over reason) self.old.said; closed = self.old.closed ++ reason ∷ []; ongoing = false } }
+        ensures { self.new ≡ record self.old {
+          said = in_newest (Over reason) self.old.said;
+          closed = self.old.closed ++ reason ∷ [];
+          ongoing = false;
+        } }
     {
         let _ = self.closed.push(reason);
         self.ongoing = false;

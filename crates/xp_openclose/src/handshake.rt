@@ -1,5 +1,5 @@
-// The handshake of one epoch of a channel, as a machine: which control flags were sent, got and taken, and which it owes.
-// It follows the driver's open and close exchange.
+// The handshake of one epoch of a channel, as a machine: which control flags were sent, got and
+// taken, and which it owes. It follows the driver's open and close exchange.
 ghost use Rattle.std.specs.Prelude.{◌≡◌, ◌||◌, ◌&&◌, true, false, IfSome, IsSome, Some, None, is_some};
 ghost use Rattle.xp_base.specs.Kinds.{Kinds, no_kinds, also, without, both, next_of, has};
 ghost use Rattle.xp_protocol.specs.State.{Shake, no_shake, warm_shake, both_complete, shake_state, shake_connected, shake_copies, shake_begun};
@@ -23,7 +23,8 @@ pub struct Handshake {
     got: Flags,
     /// Why the channel closes, where it does.
     reason: Option<Reason>,
-    /// The kinds of the partner that were taken and wait to be handled, and the argument words that were loaded for them.
+    /// The kinds of the partner that were taken and wait to be handled, and the argument words that
+    /// were loaded for them.
     taken: Flags,
     request: Option<u64>,
     reply: Option<Replied>,
@@ -40,13 +41,14 @@ pub struct Handshake {
 
 impl Model for Handshake {
     ghost use Rattle.xp_protocol.specs.State.{Shake};
-    ghost use Rattle.xp_openclose.specs.Planned.{InOrder};
 
     ghost Value = { Shake };
 
-    ghost view = { λ x. record { meet = x.meet; sent = x.sent; got = x.got; reason = x.reason; taken = x.taken; request = x.request; reply = x.reply; code = x.code; owes_message = x.owes_message; get_zero = x.get_zero; put_zero = x.put_zero; request_put = x.request_put; reply_put = x.reply_put; code_put = x.code_put } };
+    ghost use Rattle.xp_openclose.specs.HandshakeInside.{view_of, IsSound};
 
-    ghost invariant = { λ x. InOrder x.sent };
+    ghost view = { view_of };
+
+    ghost invariant = { IsSound };
 }
 
 impl Handshake {
@@ -239,8 +241,8 @@ impl Handshake {
         self.sent.contains(Kind::CloseReply) && self.got.contains(Kind::CloseReply)
     }
 
-    /// Whether a kind is owed, where the channel is registered or not, the limits of both queues are equal or not, and a copy of the
-    /// channel goes on or not.
+    /// Whether a kind is owed, where the channel is registered or not, the limits of both queues
+    /// are equal or not, and a copy of the channel goes on or not.
     pub fn owed(&self, kind: Kind, registered: bool, equal: bool, copying: bool) -> bool
         ensures value { result ≡ owed_by kind registered equal copying self.now }
         ensures order { InOrder self.now.sent }
@@ -480,7 +482,14 @@ impl Handshake {
 
     /// The next epoch begins, in the same contact. The kinds that were taken are of it.
     pub fn begin_next(&mut self)
-        ensures { self.new ≡ record no_shake { meet = self.old.meet; taken = self.old.taken; request = self.old.request; reply = self.old.reply; code = self.old.code } }
+        ensures { self.new ≡ record no_shake {
+          meet = self.old.meet;
+          taken = self.old.taken;
+          request = self.old.request;
+          reply =
+              self.old.reply;
+          code = self.old.code;
+        } }
     {
         let meet = self.meet;
         let taken = self.taken;

@@ -59,3 +59,8 @@ less_of w (suc b) d = let e : suc b - 1 ≡ b = less_one b in rw e (rest_times w
 -- the words of a run lie in the queue
 pub slot_within : (limit n k run length : ℕ) → n * lines limit ≤ 8 → k + run ≤ n → length < entry_words limit * run → entry_words limit * k + length < 128
 slot_within limit n k run length h r l = let p : entry_words limit * (k + run) ≤ entry_words limit * n = mul-le-mul_left (entry_words limit) r in omega (arith, h, l, p)
+
+-- a run of one entry more, as its fault and as its bodies
+pub ruleset fault_steps = (one_of, less_of, fault_more, fitting_more)
+
+pub ruleset body_steps = (one_of, less_of, bodies_more, fitting_first, fitting_rest)

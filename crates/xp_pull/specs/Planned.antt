@@ -11,14 +11,15 @@ use Rattle.xp_base.specs.declared.step.Wanted.{Wanted}
 use Rattle.xp_protocol.specs.Pulling.{Pulling, SenderCounters, message_taken, pull_row}
 use Rattle.xp_protocol.specs.Wanting.{wanted_at}
 
--- the step that comes next: of a copy that goes on, else of a copy of the counters that is owed, else of the next entry,
--- and else a take in progress loads the counters
+-- the step that comes next: of a copy that goes on, else of a copy of the counters that is owed,
+-- else of the next entry, and else a take in progress loads the counters
 abbrev pub pull_plan : Pulling → Option PullRule
 pull_plan x =
     if is_some x.counters then Some ReadCounters
     else (if nat_lt 0 (length x.copied) then Some ReadEntry
     else (if x.owed then Some ReadCounters
-    else (if nat_lt x.pulled x.pulled_put then Some ReadEntry else (if is_some x.take then Some ReadCounters else None))))
+    else (if nat_lt x.pulled x.pulled_put then Some ReadEntry
+    else (if is_some x.take then Some ReadCounters else None))))
 
 -- the next word of an entry may be loaded
 abbrev pub has_entry : Pulling → Bool

@@ -1,5 +1,5 @@
-// The receiving side of a channel, for whichever partner and channel its caller names: it loads the partner's counters
-// and copies its entries, whose bodies it caches until they are taken.
+// The receiving side of a channel, for whichever partner and channel its caller names: it loads the
+// partner's counters and copies its entries, whose bodies it caches until they are taken.
 ghost use Rattle.std.specs.Prelude.{◌≡◌, ℕ, ◌+◌, ◌-◌, ◌*◌, ◌%◌, ◌^◌, ◌<◌, ◌≤◌, ◌↔◌, ◌||◌, ◌++◌, ◌∷◌, [], if◌then◌else◌, length, drop, IfSome, IfOk, IsSome, Some, None, nat_lt, is_some, true, false};
 ghost use Rattle.xp_protocol.specs.Parts.{IsRequestSize};
 ghost use Rattle.xp_protocol.specs.Wanting.{wanted_at};
@@ -26,7 +26,8 @@ use xp_protocol::contact::Size;
 use xp_protocol::refusal::TakeRefusal;
 use xp_protocol::rule::PullRule;
 
-/// The receiving side of a channel. It caches as many bodies as the partner's queue has entries. Contracts see what it knows.
+/// The receiving side of a channel. It caches as many bodies as the partner's queue has entries.
+/// Contracts see what it knows.
 #[derive(Drop)]
 pub struct Receiver {
     /// The size of the partner's queue.
@@ -96,7 +97,8 @@ impl Receiver {
         self.empty = None;
     }
 
-    /// The answer of the take in progress, where it is due: a message that was taken leaves the cache.
+    /// The answer of the take in progress, where it is due: a message that was taken leaves the
+    /// cache.
     pub fn answer(&mut self) -> Option<TakeAnswer>
         ensures answer { result ≡ take_due self.old }
         ensures side { self.new ≡ taken_side (take_due self.old) self.old }
@@ -121,8 +123,9 @@ impl Receiver {
         self.owed = true;
     }
 
-    /// The step that comes next: of a copy that goes on, else of a copy of the counters that is owed, else of the next entry, and else
-    /// a take in progress loads the counters, unless its answer is due.
+    /// The step that comes next: of a copy that goes on, else of a copy of the counters that is
+    /// owed, else of the next entry, and else a take in progress loads the counters, unless its
+    /// answer is due.
     #[tactic(auto, using(crate::proofs::Runs::slot_within))]
     pub fn plan(&self) -> Option<PullRule>
         ensures value { result ≡ pull_plan self.now }
@@ -170,7 +173,8 @@ impl Receiver {
         self.taken < self.pulled
     }
 
-    /// The step that a rule makes for the partner and channel named, its copy being without a number.
+    /// The step that a rule makes for the partner and channel named, its copy being without a
+    /// number.
     pub fn wanted(&self, own: PartId, partner: PartId, channel: Channel, rule: PullRule) -> Wanted
         requires { pull_can self.now rule }
         ensures { result ≡ wanted_at own partner (pull_row own channel self.now rule) }
@@ -199,9 +203,10 @@ impl Receiver {
         }
     }
 
-    /// Takes the word that a rule's step was answered, beside the sender's counters at the same end: the get as last loaded, the own
-    /// put and the number below which all messages were released. It gives the partner's get, where the word is one, or the reason to
-    /// deactivate the partner.
+    /// Takes the word that a rule's step was answered, beside the sender's counters at the same
+    /// end: the get as last loaded, the own put and the number below which all messages were
+    /// released. It gives the partner's get, where the word is one, or the reason to deactivate the
+    /// partner.
     pub fn apply(
         &mut self,
         remote_get: u64,
@@ -212,10 +217,14 @@ impl Receiver {
     ) -> Result<Option<u64>, Reason>
         requires can { pull_can self.old rule }
         requires front { front ≤ self.old.taken }
-        ensures side { self.new ≡ (pull_effect (sender_counters remote_get put front) self.old rule word).local }
-        ensures outcome { result ≡ outcome (pull_effect (sender_counters remote_get put front) self.old rule word) }
-        ensures notes { (pull_effect (sender_counters remote_get put front) self.old rule word).notes ≡ heard_notes (heard_of result) }
-        ensures heard { IfOk result (λ heard. IfSome heard (λ get. (remote_get ≤ get) × (get ≤ put))) }
+        ensures side { self.new ≡
+            (pull_effect (sender_counters remote_get put front) self.old rule word).local }
+        ensures outcome { result ≡
+            outcome (pull_effect (sender_counters remote_get put front) self.old rule word) }
+        ensures notes { (pull_effect (sender_counters remote_get put front) self.old rule
+            word).notes ≡ heard_notes (heard_of result) }
+        ensures heard { IfOk result
+            (λ heard. IfSome heard (λ get. (remote_get ≤ get) × (get ≤ put))) }
     {
         match rule {
             PullRule::ReadCounters => match self.counters {
@@ -269,10 +278,14 @@ impl Receiver {
     // A copy of the counters is answered its get.
     fn hear_get(&mut self, remote_get: u64, put: u64, get: u64) -> Result<Option<u64>, Reason>
         requires { self.old.counters ≡ None }
-        ensures side { self.new ≡ (get_pulled (sender_counters remote_get put 0) self.old get).local }
-        ensures outcome { result ≡ outcome (get_pulled (sender_counters remote_get put 0) self.old get) }
-        ensures notes { (get_pulled (sender_counters remote_get put 0) self.old get).notes ≡ heard_notes (heard_of result) }
-        ensures heard { IfOk result (λ heard. IfSome heard (λ get. (remote_get ≤ get) × (get ≤ put))) }
+        ensures side { self.new ≡
+            (get_pulled (sender_counters remote_get put 0) self.old get).local }
+        ensures outcome { result ≡
+            outcome (get_pulled (sender_counters remote_get put 0) self.old get) }
+        ensures notes { (get_pulled (sender_counters remote_get put 0) self.old get).notes ≡
+            heard_notes (heard_of result) }
+        ensures heard { IfOk result
+            (λ heard. IfSome heard (λ get. (remote_get ≤ get) × (get ≤ put))) }
     {
         self.owed = false;
         if get < remote_get || put < get {
@@ -301,7 +314,8 @@ impl Receiver {
         None
     }
 
-    // How many entries the run has whose next word is loaded: that of the copy that goes on, or else all that are put, up to the queue's end.
+    // How many entries the run has whose next word is loaded: that of the copy that goes on, or
+    // else all that are put, up to the queue's end.
     fn run_now(&self) -> u8
         requires { self.now.pulled < self.now.pulled_put }
         ensures value { result ≡ run_now self.now }
@@ -322,7 +336,8 @@ impl Receiver {
         }
     }
 
-    // A word of a run of entries is answered; with the last one the bodies are cached, if each entry is as it has to be.
+    // A word of a run of entries is answered; with the last one the bodies are cached, if each
+    // entry is as it has to be.
     fn copy(&mut self, word: u64) -> Option<Reason>
         requires there { self.old.pulled < self.old.pulled_put }
         ensures side { self.new ≡ (entry_pulled (self.old.copied ++ word ∷ []) self.old).local }
@@ -350,7 +365,8 @@ impl Receiver {
     /// The partner's queue has this size in the epoch that is opened.
     pub fn resize(&mut self, size: Size)
         requires { IsRequestSize size.entries size.limit }
-        ensures { self.new ≡ record self.old { entries = size.entries; limit = size.limit; copied = []; run = 0 } }
+        ensures { self.new ≡ record self.old
+            { entries = size.entries; limit = size.limit; copied = []; run = 0 } }
     {
         self.copied = RunWords::new();
         self.run = 0;
@@ -419,7 +435,11 @@ fn unheard(reason: Option<Reason>) -> Result<Option<u64>, Reason>
 
 // A load of a copy that has no number.
 fn loaded(partner: PartId, index: u32, kind: CopyKind, word: u32) -> Wanted
-    ensures { result ≡ record { op = record { owner = partner; index = index; kind = OpKind.Load }; mark = Some (record { kind = kind; number = 0; word = word }) } }
+    ensures { result ≡ record {
+      op = record { owner = partner; index = index; kind = OpKind.Load };
+      mark = Some
+          (record { kind = kind; number = 0; word = word });
+    } }
 {
     Wanted {
         op: Op {
@@ -455,7 +475,7 @@ fn entry_fault_in(words: &[u64], limit: u16, pulled: u64) -> Option<Reason>
     None
 }
 
-#[tactic(auto, using(crate::proofs::Runs::one_of, crate::proofs::Runs::less_of, crate::proofs::Runs::fault_more, crate::proofs::Runs::fitting_more))]
+#[tactic(auto, using(crate::proofs::Runs::fault_steps))]
 // What is wrong with the first entry that is refused, of a run of entries from a number on.
 fn run_fault_in(words: &[u64], limit: u16, number: u64, run: u8) -> Option<Reason>
     requires words { length words.now ≡ entry_words limit * run }
@@ -474,7 +494,7 @@ fn run_fault_in(words: &[u64], limit: u16, number: u64, run: u8) -> Option<Reaso
     run_fault_in(after_first(words, limit), limit, number + 1, run - 1)
 }
 
-#[tactic(auto, using(crate::proofs::Runs::one_of, crate::proofs::Runs::less_of, crate::proofs::Runs::bodies_more, crate::proofs::Runs::fitting_first, crate::proofs::Runs::fitting_rest))]
+#[tactic(auto, using(crate::proofs::Runs::body_steps))]
 // The bodies of a run of entries are cached.
 fn cache_run(cache: &mut Cache, words: &[u64], limit: u16, run: u8)
     requires words { length words.now ≡ entry_words limit * run }

@@ -1,4 +1,5 @@
-// The receiving side of one named channel, as a machine by itself: it begins a take, says which step it wants, and takes its answer.
+// The receiving side of one named channel, as a machine by itself: it begins a take, says which
+// step it wants, and takes its answer.
 ghost use Rattle.std.specs.Prelude.{◌≡◌, ◌≤◌, ◌↔◌, None, IfSome, IsSome, true, false};
 ghost use Rattle.xp_protocol.specs.Parts.{IsRequestSize};
 ghost use Rattle.xp_protocol.specs.Pulling.{new_pulling, take_refusal, pull_failed, pull_closed, is_copying, pull_can};
@@ -14,8 +15,8 @@ use xp_base::reason::Reason;
 use xp_base::step::{Answer, CopyKind, Wanted};
 use xp_protocol::rule::PullRule;
 
-/// The receiving side of a channel of partition `own` from a partner. Contracts see the names, what its receiver knows, and whether it
-/// was stopped.
+/// The receiving side of a channel of partition `own` from a partner. Contracts see the names, what
+/// its receiver knows, and whether it was stopped.
 #[derive(Drop)]
 pub struct PullSide {
     own: PartId,
@@ -29,7 +30,13 @@ impl PullSide {
     /// A side that has pulled nothing, for a partner's queue of this size.
     pub fn new(own: PartId, partner: PartId, channel: Channel, entries: u8, limit: u16) -> PullSide
         requires { IsRequestSize entries limit }
-        ensures { result ≡ record { own = own; partner = partner; channel = channel; receiver = new_pulling entries limit; stopped = false } }
+        ensures { result ≡ record {
+          own = own;
+          partner = partner;
+          channel = channel;
+          receiver = new_pulling entries limit;
+          stopped = false;
+        } }
     {
         PullSide {
             own,
@@ -40,11 +47,13 @@ impl PullSide {
         }
     }
 
-    /// Begins a take, and answers it at once where it is refused by the state of the link or the next message is cached. A side has one
-    /// take at a time: another one that is begun takes its place.
+    /// Begins a take, and answers it at once where it is refused by the state of the link or the
+    /// next message is cached. A side has one take at a time: another one that is begun takes its
+    /// place.
     pub fn begin(&mut self, state: LinkState, wait: bool) -> Option<TakeAnswer>
         ensures answer { result ≡ begun_answer (take_refusal state) wait self.old.receiver }
-        ensures side { self.new ≡ record self.old { receiver = begun_side (take_refusal state) wait self.old.receiver } }
+        ensures side { self.new ≡
+            record self.old { receiver = begun_side (take_refusal state) wait self.old.receiver } }
     {
         match state {
             LinkState::Closing(reason) => Some(TakeAnswer::Disconnecting { reason }),
@@ -65,7 +74,9 @@ impl PullSide {
 
     /// The step that is wanted next, its copy being without a number.
     pub fn next(&self) -> Option<Wanted>
-        ensures value { result ≡ wanted_for self.now.own self.now.partner self.now.channel self.now.receiver (plan_unless self.now.stopped self.now.receiver) }
+        ensures value { result ≡
+            wanted_for self.now.own self.now.partner self.now.channel self.now.receiver
+            (plan_unless self.now.stopped self.now.receiver) }
         ensures none { self.now.stopped ≡ false → (result ≡ None ↔ NothingLeft self.now.receiver) }
     {
         let rule = self.plan()?;
@@ -75,9 +86,10 @@ impl PullSide {
         )
     }
 
-    /// Takes the answer of the step that `next` gave, beside the get that is known, the own put and the number below which all messages
-    /// were released. It gives the answer of the take in progress, where that is due then, or the reason to deactivate the partner. A
-    /// load that failed ends its copy, which yields nothing.
+    /// Takes the answer of the step that `next` gave, beside the get that is known, the own put and
+    /// the number below which all messages were released. It gives the answer of the take in
+    /// progress, where that is due then, or the reason to deactivate the partner. A load that
+    /// failed ends its copy, which yields nothing.
     pub fn feed(
         &mut self,
         answer: Answer,
@@ -85,10 +97,16 @@ impl PullSide {
         put: u64,
         front: u64,
     ) -> Result<Option<TakeAnswer>, Reason>
-        requires step { IsSome (plan_unless self.old.stopped self.old.receiver) }
+        requires step { IsSome
+            (wanted_for self.old.own self.old.partner self.old.channel self.old.receiver
+            (plan_unless self.old.stopped self.old.receiver)) }
         requires front { front ≤ self.old.receiver.taken }
-        ensures side { let f = fed_by (plan_unless self.old.stopped self.old.receiver) (sender_counters get put front) self.old.receiver answer in self.new ≡ record self.old { receiver = fed_side f.reason f.local } }
-        ensures outcome { let f = fed_by (plan_unless self.old.stopped self.old.receiver) (sender_counters get put front) self.old.receiver answer in result ≡ fed_answer f.reason f.local }
+        ensures side { let f = fed_by (plan_unless self.old.stopped self.old.receiver)
+            (sender_counters get put front) self.old.receiver answer in self.new ≡
+            record self.old { receiver = fed_side f.reason f.local } }
+        ensures outcome { let f = fed_by (plan_unless self.old.stopped self.old.receiver)
+            (sender_counters get put front) self.old.receiver answer in result ≡
+            fed_answer f.reason f.local }
     {
         let Some(rule) = self.plan() else {
             return Ok(None);
@@ -103,7 +121,12 @@ impl PullSide {
     /// Gives up the take in progress and each copy; none begins any more.
     pub fn stop(&mut self, reason: Reason) -> Option<TakeAnswer>
         ensures answer { result ≡ stop_answer reason self.old.receiver.take }
-        ensures side { self.new ≡ record self.old { receiver = (pull_closed reason self.old.receiver).local; stopped = true } }
+        ensures side { self.new ≡
+            record self.old {
+              receiver = (pull_closed reason self.old.receiver).local;
+              stopped =
+                  true;
+            } }
         ensures next { plan_unless self.new.stopped self.new.receiver ≡ None }
         ensures copying { is_copying self.new.receiver ≡ false }
     {
@@ -140,7 +163,8 @@ impl PullSide {
 
     // The load of a rule failed.
     fn fail(&mut self, rule: PullRule) -> Reason
-        ensures side { self.new ≡ record self.old { receiver = pull_failed (kind_of rule) self.old.receiver } }
+        ensures side { self.new ≡
+            record self.old { receiver = pull_failed (kind_of rule) self.old.receiver } }
         ensures reason { result ≡ Reason.CopyError (kind_of rule) 0 }
     {
         self.receiver.fail(rule);

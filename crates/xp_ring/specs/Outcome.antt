@@ -1,14 +1,14 @@
 -- What a call of the sending side tells its caller: the answer of the send where it is decided, or
 -- the reason to deactivate the partner.
-use Rattle.std.specs.Prelude.{◌≡◌, List, [], ◌∷◌, Option, Some, None, Result, Ok, Err, IsSome}
+use Rattle.std.specs.Prelude.{List, [], ◌∷◌, Option, Some, None, Result, Ok, Err, IsSome}
 use Rattle.xp_base.specs.declared.step.Answer.{Answer}
 use Rattle.xp_base.specs.declared.step.Answer.TheVariants.{Word, Failed}
 use Rattle.xp_base.specs.declared.step.CopyKind.TheVariants.{Get}
+use Rattle.xp_base.specs.declared.step.Wanted.{Wanted}
 use Rattle.xp_base.specs.declared.answer.SendAnswer.{SendAnswer}
 use Rattle.xp_base.specs.declared.reason.Reason.{Reason}
 use Rattle.xp_base.specs.declared.reason.Reason.TheVariants.{CopyError}
 use Rattle.xp_protocol.specs.declared.rule.RingRule.{RingRule}
-use Rattle.xp_protocol.specs.declared.rule.RingRule.TheVariants.{ReadGet}
 use Rattle.xp_protocol.specs.Effects.{Effect, SendNote, Accepted, Sent}
 use Rattle.xp_protocol.specs.Sending.{Sending, ring_effect}
 use Rattle.xp_ring.specs.Planned.{send_plan}
@@ -46,7 +46,8 @@ fed_by (Some m) x a = step_fed x m a
 abbrev pub send_fed : Sending → Answer → Effect Sending (List SendNote)
 send_fed x a = fed_by (send_plan x) x a
 
--- a load alone may fail
-abbrev pub MayFeed : Answer → Option RingRule → Type 0
-MayFeed (Word w) m = IsSome m
-MayFeed Failed m = m ≡ Some ReadGet
+-- an answer is of a step that is wanted, and a load alone may fail
+abbrev pub MayFeed : Answer → Option Wanted → Type 0
+MayFeed (Word w) wanted = IsSome wanted
+MayFeed Failed None = ⊥
+MayFeed Failed (Some wanted) = IsSome wanted.mark

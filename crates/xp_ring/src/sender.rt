@@ -1,5 +1,5 @@
-// The sending side of a channel, for whichever partner and channel its caller names: it stores a message's words in the
-// next free entry of the own queue, and then put.
+// The sending side of a channel, for whichever partner and channel its caller names: it stores a
+// message's words in the next free entry of the own queue, and then put.
 ghost use Rattle.std.specs.Prelude.{◌≡◌, ℕ, ◌<◌, ◌≤◌, ◌+◌, ◌-◌, ◌^◌, ◌↔◌, if◌then◌else◌, length, IfSome, IsSome, Some, None, bit_and, bit_or, is_some};
 ghost use Rattle.std.specs.Int.{trailing_ones, w128};
 ghost use Rattle.xp_base.specs.declared.body.TheConstants.{SEND_BYTES};
@@ -33,7 +33,8 @@ pub struct Sender {
     remote_get: u64,
     /// A bit for each word of the next entry that was stored.
     written_words: u128,
-    /// Whether a send is in progress, and then whether it may wait and asks for a notice, and its message.
+    /// Whether a send is in progress, and then whether it may wait and asks for a notice, and its
+    /// message.
     sending: bool,
     wait: bool,
     notify: bool,
@@ -72,8 +73,9 @@ impl Sender {
         }
     }
 
-    /// Begins a send, unless it is refused: by the limit first, then by the state of the link. After a refusal the side is as before.
-    /// A side has one send at a time: another one that is begun takes its place.
+    /// Begins a send, unless it is refused: by the limit first, then by the state of the link.
+    /// After a refusal the side is as before. A side has one send at a time: another one that is
+    /// begun takes its place.
     pub fn begin(
         &mut self,
         state: LinkState,
@@ -83,7 +85,9 @@ impl Sender {
     ) -> Option<SendAnswer>
         requires { length payload.now ≤ SEND_BYTES }
         ensures answer { result ≡ send_refusal state payload.now self.old }
-        ensures side { self.new ≡ send_begun state (record { payload = payload.now; wait = wait; notify = notify }) self.old }
+        ensures side { self.new ≡
+            send_begun state (record { payload = payload.now; wait = wait; notify = notify })
+            self.old }
     {
         let length = payload.len();
         if length > self.limit as usize {
@@ -105,7 +109,10 @@ impl Sender {
     /// Begins a send of a message that isn't longer than the limit.
     pub fn start(&mut self, payload: &[u8], wait: bool, notify: bool)
         requires { length payload.now ≤ self.old.limit }
-        ensures { self.new ≡ record self.old { send = Some (record { payload = payload.now; wait = wait; notify = notify }); written_words = 0 } }
+        ensures { self.new ≡ record self.old {
+          send = Some (record { payload = payload.now; wait = wait; notify = notify });
+          written_words = 0;
+        } }
     {
         let _limit = self.limit;
         self.body = Body::new(payload).unwrap();
@@ -185,8 +192,8 @@ impl Sender {
         }
     }
 
-    /// Takes the word that a rule's step was answered. It gives the send's answer where that is decided with the step, or the reason
-    /// to deactivate the partner.
+    /// Takes the word that a rule's step was answered. It gives the send's answer where that is
+    /// decided with the step, or the reason to deactivate the partner.
     pub fn apply(&mut self, rule: RingRule, word: u64) -> Result<Option<SendAnswer>, Reason>
         requires can { ring_can self.old rule }
         requires put { self.old.put < 2 ^ 64 - 1 }
@@ -203,12 +210,14 @@ impl Sender {
         }
     }
 
-    /// Takes the partner's get that was loaded for the send in progress. Err is BadCounters; the answer is that there is no free entry.
+    /// Takes the partner's get that was loaded for the send in progress. Err is BadCounters; the
+    /// answer is that there is no free entry.
     pub fn hear(&mut self, get: u64) -> Result<Option<SendAnswer>, Reason>
         requires { ring_can self.old RingRule.ReadGet }
         ensures side { self.new ≡ (ring_effect self.old RingRule.ReadGet get).local }
         ensures outcome { result ≡ outcome (ring_effect self.old RingRule.ReadGet get) }
-        ensures notes { (ring_effect self.old RingRule.ReadGet get).notes ≡ answer_notes (answer_of result) }
+        ensures notes { (ring_effect self.old RingRule.ReadGet get).notes ≡
+            answer_notes (answer_of result) }
     {
         if get < self.remote_get || self.put < get {
             return Err(Reason::BadCounters { get, put: self.put });
@@ -231,7 +240,8 @@ impl Sender {
         self.written_words = with_word(self.written_words, field, entry_words(self.limit));
     }
 
-    /// Put was stored: the message of the send in progress is accepted, under the number that is given.
+    /// Put was stored: the message of the send in progress is accepted, under the number that is
+    /// given.
     #[tactic(auto, using(crate::proofs::Missing::power_some))]
     pub fn accept(&mut self) -> u64
         requires can { ring_can self.old RingRule.AcceptMessage }
@@ -246,7 +256,8 @@ impl Sender {
         number
     }
 
-    /// Gives up the send in progress, whose message isn't accepted. It gives the answer of the send.
+    /// Gives up the send in progress, whose message isn't accepted. It gives the answer of the
+    /// send.
     pub fn close(&mut self, reason: Reason) -> Option<SendAnswer>
         ensures side { self.new ≡ (send_closed reason self.old).local }
         ensures notes { (send_closed reason self.old).notes ≡ answer_notes result }

@@ -1,4 +1,5 @@
-// The sending side of one named channel, as a machine by itself: it says which step it wants, and takes its answer.
+// The sending side of one named channel, as a machine by itself: it says which step it wants, and
+// takes its answer.
 ghost use Rattle.std.specs.Prelude.{◌≡◌, ℕ, ◌<◌, ◌≤◌, ◌-◌, ◌^◌, ◌↔◌, length, None};
 ghost use Rattle.xp_base.specs.declared.body.TheConstants.{SEND_BYTES};
 ghost use Rattle.xp_protocol.specs.Parts.{IsRequestSize};
@@ -13,7 +14,8 @@ use xp_base::link::LinkState;
 use xp_base::reason::Reason;
 use xp_base::step::{Answer, CopyKind, Wanted};
 
-/// The sending side of a channel of partition `own` to a partner. Contracts see the names, and what its sender knows.
+/// The sending side of a channel of partition `own` to a partner. Contracts see the names, and what
+/// its sender knows.
 #[derive(Drop)]
 pub struct SendSide {
     own: PartId,
@@ -26,7 +28,8 @@ impl SendSide {
     /// A side without messages, for an own queue of this size.
     pub fn new(own: PartId, partner: PartId, channel: Channel, entries: u8, limit: u16) -> SendSide
         requires { IsRequestSize entries limit }
-        ensures { result ≡ record { own = own; partner = partner; channel = channel; sender = new_sending entries limit } }
+        ensures { result ≡ record
+            { own = own; partner = partner; channel = channel; sender = new_sending entries limit } }
     {
         SendSide {
             own,
@@ -36,8 +39,9 @@ impl SendSide {
         }
     }
 
-    /// Begins a send, unless it is refused: by the limit first, then by the state of the link. After a refusal the side is as before.
-    /// A side has one send at a time: another one that is begun takes its place.
+    /// Begins a send, unless it is refused: by the limit first, then by the state of the link.
+    /// After a refusal the side is as before. A side has one send at a time: another one that is
+    /// begun takes its place.
     pub fn begin(
         &mut self,
         state: LinkState,
@@ -47,7 +51,8 @@ impl SendSide {
     ) -> Option<SendAnswer>
         requires { length payload.now ≤ SEND_BYTES }
         ensures answer { result ≡ send_refusal state payload.now self.old.sender }
-        ensures side { let send : Send = record { payload = payload.now; wait = wait; notify = notify } in
+        ensures side { let send : Send = record
+            { payload = payload.now; wait = wait; notify = notify } in
             self.new ≡ record self.old { sender = send_begun state send self.old.sender } }
     {
         self.sender.begin(state, payload, wait, notify)
@@ -56,7 +61,9 @@ impl SendSide {
     /// The step that the send in progress wants, its copy being without a number.
     pub fn next(&self) -> Option<Wanted>
         requires { self.now.sender.put < 2 ^ 64 - 1 }
-        ensures value { result ≡ wanted_for self.now.own self.now.partner self.now.channel self.now.sender (send_plan self.now.sender) }
+        ensures value { result ≡
+            wanted_for self.now.own self.now.partner self.now.channel self.now.sender
+            (send_plan self.now.sender) }
         ensures none { result ≡ None ↔ self.now.sender.send ≡ None }
     {
         let rule = self.sender.plan()?;
@@ -66,11 +73,15 @@ impl SendSide {
         )
     }
 
-    /// Takes the answer of the step that `next` gave. A load that failed ends its copy, and changes nothing.
+    /// Takes the answer of the step that `next` gave. A load that failed ends its copy, and changes
+    /// nothing.
     pub fn feed(&mut self, answer: Answer) -> Result<Option<SendAnswer>, Reason>
         requires put { self.old.sender.put < 2 ^ 64 - 1 }
-        requires waits { MayFeed answer (send_plan self.old.sender) }
-        ensures side { self.new ≡ record self.old { sender = (send_fed self.old.sender answer).local } }
+        requires waits { MayFeed answer
+            (wanted_for self.old.own self.old.partner self.old.channel self.old.sender
+            (send_plan self.old.sender)) }
+        ensures side { self.new ≡
+            record self.old { sender = (send_fed self.old.sender answer).local } }
         ensures outcome { result ≡ outcome (send_fed self.old.sender answer) }
     {
         let Some(rule) = self.sender.plan() else {
@@ -89,7 +100,8 @@ impl SendSide {
     pub fn stop(&mut self, reason: Reason) -> Option<SendAnswer>
         ensures answer { result ≡ answer_in (send_closed reason self.old.sender).notes }
         ensures none { result ≡ None ↔ self.old.sender.send ≡ None }
-        ensures side { self.new ≡ record self.old { sender = (send_closed reason self.old.sender).local } }
+        ensures side { self.new ≡
+            record self.old { sender = (send_closed reason self.old.sender).local } }
     {
         self.sender.close(reason)
     }

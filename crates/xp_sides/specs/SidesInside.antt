@@ -11,7 +11,18 @@ use Rattle.xp_sides.specs.Viewed.{SidesView, new_view, Fits}
 
 abbrev pub view_by : Size → Size → Option (Box There Global) → SidesView
 view_by own theirs None = new_view own theirs false
-view_by own theirs (Some x) = record { sides = record { send = x.value.send; pull = x.value.pull; ack = x.value.ack; pending_notices = x.value.pending_notices; local_get = x.value.local_get; releasing = x.value.releasing; draining = x.value.draining }; ready = true }
+view_by own theirs (Some x) = record {
+  sides = record {
+    send = x.value.send;
+    pull = x.value.pull;
+    ack = x.value.ack;
+    pending_notices = x.value.pending_notices;
+    local_get = x.value.local_get;
+    releasing = x.value.releasing;
+    draining = x.value.draining;
+  };
+  ready = true;
+}
 
 abbrev pub view_of : Inside → SidesView
 view_of x = view_by x.own x.theirs x.there

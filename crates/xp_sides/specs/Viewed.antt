@@ -23,7 +23,8 @@ abbrev pub held_after : Option TakeAnswer → Releasing → Releasing
 held_after (Some (Taken number body)) x = message_held x
 held_after a x = x
 
--- what was taken is released or held, and what was put by the partner and not released fits the largest queue
+-- what was taken is released or held, and what was put by the partner and not released fits the
+-- largest queue
 pub record Fits (p : Pulling) (r : Releasing) : Type 0 where
   pub held : p.taken ≡ r.front + length r.released_from_front
   pub few : p.entries ≤ 8

@@ -1,4 +1,5 @@
-// The sides of an end: they take memory only while they are there, and contracts see new ones where they aren't.
+// The sides of an end: they take memory only while they are there, and contracts see new ones where
+// they aren't.
 ghost use Rattle.std.specs.Prelude.{◌≡◌, ℕ, ◌+◌, ◌-◌, ◌<◌, ◌≤◌, ◌^◌, ◌++◌, ◌∷◌, [], length, IfSome, IfOk, IsSome, OnOk, Some, None, is_some, true, false, ◌||◌, ◌&&◌, not, nat_eq, nat_lt};
 ghost use Rattle.xp_base.specs.declared.layout.TheConstants.{LINES};
 ghost use Rattle.xp_protocol.specs.Parts.{IsRequestSize};
@@ -139,8 +140,10 @@ impl Sides {
         requires { ring_can self.old.sides.send RingRule.ReadGet }
         ensures sides { let f = ring_effect self.old.sides.send RingRule.ReadGet get in
             self.new ≡ record self.old { sides = record self.old.sides { send = f.local } } }
-        ensures outcome { result ≡ send_outcome (ring_effect self.old.sides.send RingRule.ReadGet get) }
-        ensures notes { (ring_effect self.old.sides.send RingRule.ReadGet get).notes ≡ answer_notes (answer_of result) }
+        ensures outcome { result ≡
+            send_outcome (ring_effect self.old.sides.send RingRule.ReadGet get) }
+        ensures notes { (ring_effect self.old.sides.send RingRule.ReadGet get).notes ≡
+            answer_notes (answer_of result) }
     {
         match &mut self.there {
             Some(there) => there.send.hear(get),
@@ -161,8 +164,8 @@ impl Sides {
         }
     }
 
-    /// Put was stored: the message of the send in progress is accepted, under the number that is given. Where its sender asked for a
-    /// notice, the number waits for it.
+    /// Put was stored: the message of the send in progress is accepted, under the number that is
+    /// given. Where its sender asked for a notice, the number waits for it.
     #[tactic(auto, using(crate::proofs::Asking::below_more, crate::proofs::Asking::below_append))]
     pub fn accept(&mut self, asks: bool) -> u64
         requires can { ring_can self.old.sides.send RingRule.AcceptMessage }
@@ -222,7 +225,8 @@ impl Sides {
     ) -> Wanted
         requires can { ring_can self.now.sides.send rule }
         requires put { self.now.sides.send.put < 2 ^ 64 - 1 }
-        ensures { result ≡ wanted_at own partner (ring_row own partner channel self.now.sides.send rule) }
+        ensures { result ≡ wanted_at own partner
+            (ring_row own partner channel self.now.sides.send rule) }
     {
         match &self.there {
             Some(there) => there.send.wanted(own, partner, channel, rule),
@@ -248,17 +252,23 @@ impl Sides {
         }
     }
 
-    /// A rule's step of the receiving side was answered this word. It gives the partner's get, where the word is one, or the reason to
-    /// deactivate the partner.
+    /// A rule's step of the receiving side was answered this word. It gives the partner's get,
+    /// where the word is one, or the reason to deactivate the partner.
     #[tactic(auto, using(crate::proofs::Fitting::fits_pulled))]
     pub fn pull(&mut self, rule: PullRule, word: u64) -> Result<Option<u64>, Reason>
         requires can { pull_can self.old.sides.pull rule }
         requires ready { self.old.ready ≡ true }
-        ensures sides { let f = pull_effect (sender_counters self.old.sides) self.old.sides.pull rule word in
+        ensures sides { let f = pull_effect (sender_counters self.old.sides) self.old.sides.pull
+            rule word in
             self.new ≡ record self.old { sides = record self.old.sides { pull = f.local } } }
-        ensures outcome { result ≡ pull_outcome (pull_effect (sender_counters self.old.sides) self.old.sides.pull rule word) }
-        ensures notes { (pull_effect (sender_counters self.old.sides) self.old.sides.pull rule word).notes ≡ heard_notes (heard_of result) }
-        ensures heard { IfOk result (λ heard. IfSome heard (λ get. (self.old.sides.send.remote_get ≤ get) × (get ≤ self.old.sides.send.put))) }
+        ensures outcome { result ≡
+            pull_outcome (pull_effect (sender_counters self.old.sides) self.old.sides.pull rule
+            word) }
+        ensures notes { (pull_effect (sender_counters self.old.sides) self.old.sides.pull rule
+            word).notes ≡ heard_notes (heard_of result) }
+        ensures heard { IfOk result
+            (λ heard. IfSome heard
+            (λ get. (self.old.sides.send.remote_get ≤ get) × (get ≤ self.old.sides.send.put))) }
     {
         match &mut self.there {
             Some(there) => {
@@ -275,7 +285,10 @@ impl Sides {
     #[tactic(auto, using(crate::proofs::Fitting::fits_failed))]
     pub fn fail_pull(&mut self, rule: PullRule)
         requires ready { self.old.ready ≡ true }
-        ensures { self.new ≡ record self.old { sides = record self.old.sides { pull = pull_failed (kind_of rule) self.old.sides.pull } } }
+        ensures { self.new ≡ record self.old {
+          sides = record self.old.sides
+              { pull = pull_failed (kind_of rule) self.old.sides.pull };
+        } }
     {
         match &mut self.there {
             Some(there) => there.pull.fail(rule),
@@ -288,7 +301,8 @@ impl Sides {
         requires ready { self.old.ready ≡ true }
         requires low { self.old.sides.send.remote_get ≤ get }
         requires high { get ≤ self.old.sides.send.put }
-        ensures { self.new ≡ record self.old { sides = record self.old.sides { send = with_remote_get get self.old.sides.send } } }
+        ensures { self.new ≡ record self.old
+            { sides = record self.old.sides { send = with_remote_get get self.old.sides.send } } }
     {
         match &mut self.there {
             Some(there) => there.send.know(get),
@@ -300,7 +314,8 @@ impl Sides {
     pub fn size_own(&mut self, size: Size)
         requires size { IsRequestSize size.entries size.limit }
         requires none { self.old.sides.pending_notices ≡ [] }
-        ensures { self.new ≡ record self.old { sides = record self.old.sides { send = new_sending size.entries size.limit } } }
+        ensures { self.new ≡ record self.old
+            { sides = record self.old.sides { send = new_sending size.entries size.limit } } }
     {
         match &mut self.there {
             Some(there) => there.send.resize(size),
@@ -312,7 +327,12 @@ impl Sides {
     #[tactic(auto, using(crate::proofs::Fitting::fits_sized))]
     pub fn size_theirs(&mut self, size: Size)
         requires { IsRequestSize size.entries size.limit }
-        ensures { self.new ≡ record self.old { sides = record self.old.sides { pull = record self.old.sides.pull { entries = size.entries; limit = size.limit; copied = []; run = 0 } } } }
+        ensures { self.new ≡ record self.old {
+          sides = record self.old.sides {
+            pull = record self.old.sides.pull
+                { entries = size.entries; limit = size.limit; copied = []; run = 0 };
+          };
+        } }
     {
         match &mut self.there {
             Some(there) => there.pull.resize(size),
@@ -324,7 +344,14 @@ impl Sides {
     pub fn start_send(&mut self, payload: &[u8], wait: bool, notify: bool)
         requires ready { self.old.ready ≡ true }
         requires limit { length payload.now ≤ self.old.sides.send.limit }
-        ensures { self.new ≡ record self.old { sides = record self.old.sides { send = record self.old.sides.send { send = Some (record { payload = payload.now; wait = wait; notify = notify }); written_words = 0 } } } }
+        ensures { self.new ≡ record self.old {
+          sides = record self.old.sides {
+            send = record self.old.sides.send {
+              send = Some (record { payload = payload.now; wait = wait; notify = notify });
+              written_words = 0;
+            };
+          };
+        } }
     {
         match &mut self.there {
             Some(there) => there.send.start(payload, wait, notify),
@@ -335,7 +362,10 @@ impl Sides {
     /// Begins a take.
     pub fn start_take(&mut self, wait: bool)
         requires ready { self.old.ready ≡ true }
-        ensures { self.new ≡ record self.old { sides = record self.old.sides { pull = record self.old.sides.pull { take = Some wait; empty = None } } } }
+        ensures { self.new ≡ record self.old {
+          sides = record self.old.sides
+              { pull = record self.old.sides.pull { take = Some wait; empty = None } };
+        } }
     {
         match &mut self.there {
             Some(there) => there.pull.start(wait),
@@ -346,7 +376,8 @@ impl Sides {
     /// A copy of the counters is owed.
     pub fn owe_copy(&mut self)
         requires ready { self.old.ready ≡ true }
-        ensures { self.new ≡ record self.old { sides = record self.old.sides { pull = record self.old.sides.pull { owed = true } } } }
+        ensures { self.new ≡ record self.old
+            { sides = record self.old.sides { pull = record self.old.sides.pull { owed = true } } } }
     {
         match &mut self.there {
             Some(there) => there.pull.pull(),
@@ -356,7 +387,11 @@ impl Sides {
 
     /// Gives up the send in progress. It gives the answer of the send.
     pub fn close_send(&mut self, reason: Reason) -> Option<SendAnswer>
-        ensures sides { self.new ≡ record self.old { sides = record self.old.sides { send = (send_closed reason self.old.sides.send).local } } }
+        ensures sides { self.new ≡
+            record self.old {
+              sides = record self.old.sides
+                  { send = (send_closed reason self.old.sides.send).local };
+            } }
         ensures notes { (send_closed reason self.old.sides.send).notes ≡ answer_notes result }
     {
         match &mut self.there {
@@ -367,7 +402,11 @@ impl Sides {
 
     /// Gives up the take in progress and each copy. It gives why the take is refused.
     pub fn close_pull(&mut self, reason: Reason) -> Option<TakeRefusal>
-        ensures sides { self.new ≡ record self.old { sides = record self.old.sides { pull = (pull_closed reason self.old.sides.pull).local } } }
+        ensures sides { self.new ≡
+            record self.old {
+              sides = record self.old.sides
+                  { pull = (pull_closed reason self.old.sides.pull).local };
+            } }
         ensures notes { (pull_closed reason self.old.sides.pull).notes ≡ refusal_notes result }
     {
         match &mut self.there {
@@ -376,12 +415,20 @@ impl Sides {
         }
     }
 
-    /// The answer of the take in progress, where it is due; a message that is taken is held until it is released.
+    /// The answer of the take in progress, where it is due; a message that is taken is held until
+    /// it is released.
     #[tactic(auto, using(crate::proofs::Fitting::fits_taken))]
     pub fn take(&mut self) -> Option<TakeAnswer>
         requires { self.old.sides.pull.taken < 2 ^ 64 - 1 }
         ensures answer { result ≡ take_due self.old.sides.pull }
-        ensures sides { self.new ≡ record self.old { sides = record self.old.sides { pull = taken_side (take_due self.old.sides.pull) self.old.sides.pull; ack = held_after (take_due self.old.sides.pull) self.old.sides.ack } } }
+        ensures sides { self.new ≡
+            record self.old {
+              sides = record self.old.sides {
+                pull = taken_side (take_due self.old.sides.pull) self.old.sides.pull;
+                ack = held_after
+                    (take_due self.old.sides.pull) self.old.sides.ack;
+              };
+            } }
     {
         match &mut self.there {
             Some(there) => {
@@ -396,10 +443,17 @@ impl Sides {
         }
     }
 
-    /// Releases the message of a number that is held. It waits for the store of get, unless the front stays.
+    /// Releases the message of a number that is held. It waits for the store of get, unless the
+    /// front stays.
     pub fn release(&mut self, number: u64)
         requires { is_held number self.old.sides.ack ≡ true }
-        ensures { self.new ≡ record self.old { sides = record self.old.sides { ack = message_released number self.old.sides.ack; releasing = not (nat_eq self.old.sides.ack.front (message_released number self.old.sides.ack).front) } } }
+        ensures { self.new ≡ record self.old {
+          sides = record self.old.sides {
+            ack = message_released number self.old.sides.ack;
+            releasing = not
+                (nat_eq self.old.sides.ack.front (message_released number self.old.sides.ack).front);
+          };
+        } }
     {
         match &mut self.there {
             Some(there) => {
@@ -415,7 +469,10 @@ impl Sides {
     pub fn acknowledge(&mut self) -> u64
         requires ready { self.old.ready ≡ true }
         ensures value { result ≡ self.old.sides.ack.front }
-        ensures sides { self.new ≡ record self.old { sides = record self.old.sides { local_get = self.old.sides.ack.front } } }
+        ensures sides { self.new ≡
+            record self.old {
+              sides = record self.old.sides { local_get = self.old.sides.ack.front };
+            } }
     {
         match &mut self.there {
             Some(there) => {
@@ -430,7 +487,8 @@ impl Sides {
     /// A release doesn't wait any more. Whether it did is the result.
     pub fn end_release(&mut self) -> bool
         ensures value { result ≡ self.old.sides.releasing }
-        ensures sides { self.new ≡ record self.old { sides = record self.old.sides { releasing = false } } }
+        ensures sides { self.new ≡
+            record self.old { sides = record self.old.sides { releasing = false } } }
     {
         match &mut self.there {
             Some(there) => {
@@ -456,7 +514,8 @@ impl Sides {
     /// A drain doesn't wait any more. Whether it did is the result.
     pub fn end_drain(&mut self) -> bool
         ensures value { result ≡ self.old.sides.draining }
-        ensures sides { self.new ≡ record self.old { sides = record self.old.sides { draining = false } } }
+        ensures sides { self.new ≡
+            record self.old { sides = record self.old.sides { draining = false } } }
     {
         match &mut self.there {
             Some(there) => {
@@ -473,7 +532,8 @@ impl Sides {
     pub fn first_notice(&mut self) -> Option<u64>
         ensures value { result ≡ first_number self.old.sides.pending_notices }
         ensures ready { IsSome result → self.old.ready ≡ true }
-        ensures sides { let left = numbers_left (first_number self.old.sides.pending_notices) self.old.sides.pending_notices in
+        ensures sides { let left = numbers_left (first_number self.old.sides.pending_notices)
+            self.old.sides.pending_notices in
             self.new ≡ record self.old { sides = record self.old.sides { pending_notices = left } } }
     {
         match &mut self.there {
@@ -485,11 +545,15 @@ impl Sides {
         }
     }
 
-    /// The lowest number that waits for a notice and lies below the get that is known waits no longer.
+    /// The lowest number that waits for a notice and lies below the get that is known waits no
+    /// longer.
     #[tactic(auto, using(crate::proofs::Asking::below_left))]
     pub fn known_notice(&mut self) -> Option<u64>
-        ensures value { result ≡ below self.old.sides.send.remote_get self.old.sides.pending_notices }
-        ensures sides { let left = numbers_left (below self.old.sides.send.remote_get self.old.sides.pending_notices) self.old.sides.pending_notices in
+        ensures value { result ≡
+            below self.old.sides.send.remote_get self.old.sides.pending_notices }
+        ensures sides { let left = numbers_left
+            (below self.old.sides.send.remote_get self.old.sides.pending_notices)
+            self.old.sides.pending_notices in
             self.new ≡ record self.old { sides = record self.old.sides { pending_notices = left } } }
     {
         match &mut self.there {

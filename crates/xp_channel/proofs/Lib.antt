@@ -1,0 +1,5 @@
+pub mod Silent
+pub mod Settling
+pub mod Beginning
+pub mod Permitted
+pub mod Telling

@@ -1,0 +1,9 @@
+pub mod Channel
+pub mod Room
+pub mod Opening
+pub mod Planned
+pub mod Permitted
+pub mod Answering
+pub mod Linked
+pub mod Waiting
+pub mod EndInside
