@@ -158,7 +158,7 @@ missing_else k [] i r m e n = absurd (cc)
 missing_else k (z ∷ rs) zero r m e n = let same : z ≡ r = cc in let f : is_name (name_of z) k ≡ true = ap (λ (x : Recorded). is_name (name_of x) k) same ∙ ap (λ (j : Name). is_name j k) n ∙ self_name k in let g = m.0 in absurd (cc)
 missing_else k (z ∷ rs) (suc i) r m e n = missing_else k rs i r m.1 e n
 
-name_is : (j k : Name) → is_name j k ≡ true → j ≡ k
+pub name_is : (j k : Name) → is_name j k ≡ true → j ≡ k
 name_is j k h =
     let p = and_parts (eqb j.epoch k.epoch) (is_meeting j.own j.theirs k) h in
     let q = and_parts (is_session j.own k.own) (is_session j.theirs k.theirs) p.1 in

@@ -9,7 +9,7 @@ use Rattle.xp_base.specs.declared.step.OpKind.TheVariants.{Store}
 use Rattle.xp_base.specs.declared.step.Answer.TheVariants.{Word, Failed}
 use Rattle.xp_base.specs.declared.link.LinkState.TheVariants.{Connected}
 use Rattle.xp_base.specs.Memory.{Memory}
-use Rattle.xp_base.specs.History.{Marked, Turn, Event, Turned, turns_of}
+use Rattle.xp_base.specs.History.{Act, Marked, Turn, Event, Turned, turns_of}
 use Rattle.xp_base.specs.Places.{Entry, place_of, place_of-index_of}
 use Rattle.xp_protocol.specs.declared.rule.RingRule.TheVariants.{WriteEntryWord}
 use Rattle.xp_protocol.specs.declared.rule.LinkRule.TheVariants.{Ring, Acknowledge}
@@ -25,7 +25,7 @@ use Rattle.xp_protocol.specs.State.{State, End, link_of, end_of}
 use Rattle.xp_protocol.specs.Sending.{Sending, words_each, next_slot}
 use Rattle.xp_protocol.specs.Rules.{Can, row_of, op_of}
 use Rattle.xp_protocol.specs.Decode.{rule_of}
-use Rattle.xp_protocol.specs.Acts.{after_acts}
+use Rattle.xp_protocol.specs.Acts.{MayAct, after_acts}
 use Rattle.xp_protocol.specs.Logged.{noted_acts}
 use Rattle.xp_protocol.specs.Runs.{MayMake, MayStep}
 use Rattle.xp_protocol.specs.Reached.{ReachedWords}
@@ -35,7 +35,8 @@ use Rattle.xp_protocol.proofs.Undo.{within}
 use Rattle.xp_meetings.proofs.Words.{Words, Agrees}
 use Rattle.xp_meetings.proofs.Both.{Side}
 use Rattle.xp_meetings.proofs.Parts.{Part, part_opened, part_start, part_act, part_ruled, part_moment, acts_state, acts_books, from_state, from_books}
-use Rattle.xp_meetings.proofs.Always.{at_one, one_here, answer_word}
+use Rattle.xp_meetings.proofs.Always.{at_one, one_here, does_rule, answer_word}
+use Rattle.xp_meetings.proofs.Opening.{opening_words}
 use Rattle.xp_promises.proofs.FlagUse.{copying}
 use Rattle.xp_promises.proofs.Direction.{Out, Kept}
 use Rattle.xp_promises.proofs.Ways.{out_of, in_of}
@@ -116,23 +117,26 @@ module _ (s : Scenario) (law : IsLawful s) where
     by true = new
     by false = h p l
 
+  pub both_act : (w : Words) (σ : ℕ → Part) (a : ℕ) (x : Act) → a < s.count → Both w σ → MayAct (part_of s a) (σ a).state x → Both w (at_one σ a (part_act (part_of s a) (σ a) x))
+  both_act w σ a x la i may = record { good = act_kept s law w σ a x la i.good may; owned = owned_at σ a (part_act (part_of s a) (σ a) x) i.owned (owned_act (part_of s a) (lawful_part s a law la) (σ a) (i.owned a la) x may) }
+
+  pub both_rule : (w : Words) (σ : ℕ → Part) (a : ℕ) (r : Rule) → a < s.count → Both w σ → Can (part_of s a) (σ a).state r → Both (does_rule (part_of s a) (σ a).state r w) (at_one σ a (part_ruled (part_of s a) (σ a) r (Word (answer_word (part_of s a) (σ a).state r w))))
+  both_rule w σ a r la i can = record { good = rule_kept s law w σ a r la i.good can; owned = owned_at σ a (part_ruled (part_of s a) (σ a) r (Word (answer_word (part_of s a) (σ a).state r w))) i.owned (owned_rule (part_of s a) (lawful_part s a law la) (σ a) (i.owned a la) r (Word (answer_word (part_of s a) (σ a).state r w)) can) }
+
+  pub both_failed : (w : Words) (σ : ℕ → Part) (a : ℕ) (r : Rule) → a < s.count → Both w σ → Can (part_of s a) (σ a).state r → Both w (at_one σ a (part_ruled (part_of s a) (σ a) r Failed))
+  both_failed w σ a r la i can = record { good = failed_kept s law w σ a r la i.good can; owned = owned_at σ a (part_ruled (part_of s a) (σ a) r Failed) i.owned (owned_rule (part_of s a) (lawful_part s a law la) (σ a) (i.owned a la) r Failed can) }
+
+  pub both_moment : (w : Words) (σ : ℕ → Part) (a earlier turns : ℕ) → a < s.count → Both w σ → Both w (at_one σ a (part_moment (part_of s a) earlier turns (σ a)))
+  both_moment w σ a earlier turns la i = record { good = moment_kept s law w σ a earlier turns la i.good; owned = owned_at σ a (part_moment (part_of s a) earlier turns (σ a)) i.owned (owned_moment (part_of s a) (lawful_part s a law la) (σ a) (i.owned a la) earlier turns) }
+
+  pub both_first : Both (opening_words s) (λ p. part_start (part_of s p))
+  both_first = record { good = start_good s law; owned = λ p l. owned_moment (part_of s p) (lawful_part s p law l) (part_opened (part_of s p)) (owned_first (part_of s p)) 0 0 }
+
   pub whole_both : (h : List Event) (m : Memory) → ReachedWords s h m → (w : Words) × Agrees s.count m w × Both w (part_at s h)
-  whole_both =
-      whole s law Both
-      (λ w σ a x la i may. record { good = act_kept s law w σ a x la i.good may; owned = owned_at σ a (part_act (part_of s a) (σ a) x) i.owned (owned_act (part_of s a) (lawful_part s a law la) (σ a) (i.owned a la) x may) })
-      (λ w σ a r la i can. record { good = rule_kept s law w σ a r la i.good can; owned = owned_at σ a (part_ruled (part_of s a) (σ a) r (Word (answer_word (part_of s a) (σ a).state r w))) i.owned (owned_rule (part_of s a) (lawful_part s a law la) (σ a) (i.owned a la) r (Word (answer_word (part_of s a) (σ a).state r w)) can) })
-      (λ w σ a r la i can. record { good = failed_kept s law w σ a r la i.good can; owned = owned_at σ a (part_ruled (part_of s a) (σ a) r Failed) i.owned (owned_rule (part_of s a) (lawful_part s a law la) (σ a) (i.owned a la) r Failed can) })
-      (λ w σ a earlier turns la i. record { good = moment_kept s law w σ a earlier turns la i.good; owned = owned_at σ a (part_moment (part_of s a) earlier turns (σ a)) i.owned (owned_moment (part_of s a) (lawful_part s a law la) (σ a) (i.owned a la) earlier turns) })
-      (record { good = start_good s law; owned = λ p l. owned_moment (part_of s p) (lawful_part s p law l) (part_opened (part_of s p)) (owned_first (part_of s p)) 0 0 })
+  whole_both = whole s law Both both_act both_rule both_failed both_moment both_first
 
   pub before_both : (before after : List Event) (p : ℕ) (t : Turn) (m : Memory) → ReachedWords s (before ++ Turned p t ∷ after) m → Before s Both before p t
-  before_both =
-      before_step s law Both
-      (λ w σ a x la i may. record { good = act_kept s law w σ a x la i.good may; owned = owned_at σ a (part_act (part_of s a) (σ a) x) i.owned (owned_act (part_of s a) (lawful_part s a law la) (σ a) (i.owned a la) x may) })
-      (λ w σ a r la i can. record { good = rule_kept s law w σ a r la i.good can; owned = owned_at σ a (part_ruled (part_of s a) (σ a) r (Word (answer_word (part_of s a) (σ a).state r w))) i.owned (owned_rule (part_of s a) (lawful_part s a law la) (σ a) (i.owned a la) r (Word (answer_word (part_of s a) (σ a).state r w)) can) })
-      (λ w σ a r la i can. record { good = failed_kept s law w σ a r la i.good can; owned = owned_at σ a (part_ruled (part_of s a) (σ a) r Failed) i.owned (owned_rule (part_of s a) (lawful_part s a law la) (σ a) (i.owned a la) r Failed can) })
-      (λ w σ a earlier turns la i. record { good = moment_kept s law w σ a earlier turns la i.good; owned = owned_at σ a (part_moment (part_of s a) earlier turns (σ a)) i.owned (owned_moment (part_of s a) (lawful_part s a law la) (σ a) (i.owned a la) earlier turns) })
-      (record { good = start_good s law; owned = λ p l. owned_moment (part_of s p) (lawful_part s p law l) (part_opened (part_of s p)) (owned_first (part_of s p)) 0 0 })
+  before_both = before_step s law Both both_act both_rule both_failed both_moment both_first
 
   -- what is known and recorded right before a step
   step_state : (before : List Event) (p : ℕ) (t : Turn) → (at_step s before p t).state ≡ known_acted s before p t.before

@@ -20,7 +20,7 @@ use Rattle.xp_meetings.proofs.Parts.{notes_more}
 use Rattle.xp_promises.proofs.Steps.{AreSilent, silent_notes, silent_hears}
 use Rattle.xp_promises.proofs.Shakes.{down_silent}
 use Rattle.xp_promises.proofs.Own.{or_true, no_reason}
-use Rattle.xp_records.proofs.Flow.{Joint, begun_by, Flow, FlowAt, RegisteredAt, told_in, over_in, IsExplained, AreExplained, plain_explained, Stays, Closes, Sends, Tells, calm_tells, Kept, kept_then, face, Face, ArePlain, calm}
+use Rattle.xp_records.proofs.Flow.{Joint, begun_by, Flow, FlowAt, RegisteredAt, told_in, over_in, acks_in, IsExplained, AreExplained, plain_explained, Stays, Closes, Sends, Tells, calm_tells, Kept, kept_then, face, Face, ArePlain, calm}
 
 -- an end whose close reply was sent has a reason
 pub replied_reason : (e : End) → FlowAt e → e.shake.sent.close_reply ≡ true → is_some e.shake.reason ≡ true
@@ -90,7 +90,7 @@ decided_by reason None e z = tail_decided reason e.sides.pull.take e.sides.relea
 decided_by reason (Some s) e z = tail_decided reason e.sides.pull.take e.sides.releasing e.sides.draining (hear (BySend (Sent (Disconnecting reason))) z)
 
 pub silent_plain : (xs : List Note) → AreSilent xs → ArePlain xs
-silent_plain [] h = (refl, refl)
+silent_plain [] h = (refl, refl, refl)
 silent_plain (BySend (Sent a) ∷ xs) h = silent_plain xs h.1
 silent_plain (ByPull (TakeRefused a) ∷ xs) h = silent_plain xs h.1
 silent_plain (Released a ∷ xs) h = silent_plain xs h.1
@@ -100,9 +100,9 @@ silent_plain (Withdrawn a ∷ xs) h = silent_plain xs h.1
 silent_plain (x ∷ xs) h = absurd h.0
 
 pub opened_plain : (b : Bool) (m : Option Contact) (n : ℕ) → ArePlain (open_notes b m n)
-opened_plain true m n = (refl, refl)
-opened_plain false None n = (refl, refl)
-opened_plain false (Some m) n = (refl, refl)
+opened_plain true m n = (refl, refl, refl)
+opened_plain false None n = (refl, refl, refl)
+opened_plain false (Some m) n = (refl, refl, refl)
 
 -- the numbers that an epoch's end tells
 tolds_over : (ns : List ℕ) → over_in (map ToldOver ns) ≡ ns
@@ -120,6 +120,14 @@ tolds_told (n ∷ ns) = tolds_told ns
 over_told : (o : Option Reason) (ns : List ℕ) → told_in (over_note o ++ map ToldOver ns) ≡ []
 over_told None ns = tolds_told ns
 over_told (Some reason) ns = tolds_told ns
+
+tolds_acked : (ns : List ℕ) → acks_in (map ToldOver ns) ≡ []
+tolds_acked [] = refl
+tolds_acked (n ∷ ns) = tolds_acked ns
+
+over_acked : (o : Option Reason) (ns : List ℕ) → acks_in (over_note o ++ map ToldOver ns) ≡ []
+over_acked None ns = tolds_acked ns
+over_acked (Some reason) ns = tolds_acked ns
 
 tolds_none : (q c : ℕ) (ns : List ℕ) → with_notes q c (map ToldOver ns) [] ≡ []
 tolds_none q c [] = refl
@@ -147,7 +155,7 @@ module _ (q c : ℕ) where
   either false e f g a b = b refl
 
   pub stays : (e : End) → Keeps e (just e)
-  stays e w = calm q c e (just e) w (λ z. z) refl (refl, refl)
+  stays e w = calm q c e (just e) w (λ z. z) refl (refl, refl, refl)
 
   -- a reason
   opens : (e : End) → Keeps e (record { local = e; reason = None; notes = opened_notes e })
@@ -169,6 +177,7 @@ module _ (q c : ℕ) where
           going = λ t. inr (record { why = reason; reason = stands; unended = ap (λ (z : End). z.shake.sent.close_reply) same ∙ unreplied e w i; none = none; decided = says ∙ told e.sides.send.send t });
         };
         remains = λ r a b. absurd (not_some e.shake.reason i (ap (λ (o : Option Reason). is_some o) a));
+        meet = ap (λ (z : End). z.shake.meet) same;
       }
     where
       told : (o : Option Send) → is_some o ≡ true → (hears (map BySend (closed_send reason o)) (down_end reason e)).decided.send ≡ Some (Disconnecting reason)
@@ -189,6 +198,7 @@ module _ (q c : ℕ) where
       record {
         ended = ended ∙ ap (λ (ns : List ℕ). e.ended ++ ns) (sym all);
         told = ap told_in notes ∙ over_told e.shake.reason e.sides.pending_notices;
+        acked = ap acks_in notes ∙ over_acked e.shake.reason e.sides.pending_notices;
         pending = λ z. (none, all ∙ z);
         explained = λ rs h. subst (λ (ns : List Note). AreExplained (with_notes q c ns rs)) (sym notes) (over_explained q c e.shake.reason e.sides.pending_notices rs why h);
       }
@@ -203,6 +213,7 @@ module _ (q c : ℕ) where
         tells = over_tells e (epoch_over e) refl refl refl (inl why);
         sends = record { idle = λ z. (refl, refl); going = λ z. absurd (not_some e.shake.reason (w.sends z).3 why) };
         remains = λ r a b. absurd (cc);
+        meet = refl;
       }
 
   pub changes : (e : End) → Keeps e (changed e)
@@ -216,19 +227,19 @@ module _ (q c : ℕ) where
 
   got : (k : Kind) (e : End) → (k ≡ MsgRequest → ⊥) → refused k e ≡ false → Keeps e (just (kind_got k e))
   got MsgRequest e m n w = absurd (m refl)
-  got CloseRequest e m n w = calm q c e (just (kind_got CloseRequest e)) (record { sent_reply = w.sent_reply; sent_request = w.sent_request; got_reply = w.got_reply; got_request = w.got_request; close_request = w.close_request; close_reply = w.close_reply; away = w.away; unbegun = w.unbegun; sends = w.sends; unsent = w.unsent; ungot = w.ungot }) (λ z. z) refl (refl, refl)
-  got CloseReply e m n w = calm q c e (just (kind_got CloseReply e)) (record { sent_reply = w.sent_reply; sent_request = w.sent_request; got_reply = w.got_reply; got_request = w.got_request; close_request = w.close_request; close_reply = w.close_reply; away = w.away; unbegun = w.unbegun; sends = w.sends; unsent = w.unsent; ungot = w.ungot }) (λ z. z) refl (refl, refl)
-  got OpenRequest e m n w = calm q c e (just (kind_got OpenRequest e)) (record { sent_reply = w.sent_reply; sent_request = w.sent_request; got_reply = w.got_reply; got_request = λ t. refl; close_request = w.close_request; close_reply = w.close_reply; away = w.away; unbegun = w.unbegun; sends = w.sends; unsent = w.unsent; ungot = λ t. absurd (cc) }) (λ z. z) refl (refl, refl)
+  got CloseRequest e m n w = calm q c e (just (kind_got CloseRequest e)) (record { sent_reply = w.sent_reply; sent_request = w.sent_request; got_reply = w.got_reply; got_request = w.got_request; close_request = w.close_request; close_reply = w.close_reply; away = w.away; unbegun = w.unbegun; sends = w.sends; unsent = w.unsent; ungot = w.ungot }) (λ z. z) refl (refl, refl, refl)
+  got CloseReply e m n w = calm q c e (just (kind_got CloseReply e)) (record { sent_reply = w.sent_reply; sent_request = w.sent_request; got_reply = w.got_reply; got_request = w.got_request; close_request = w.close_request; close_reply = w.close_reply; away = w.away; unbegun = w.unbegun; sends = w.sends; unsent = w.unsent; ungot = w.ungot }) (λ z. z) refl (refl, refl, refl)
+  got OpenRequest e m n w = calm q c e (just (kind_got OpenRequest e)) (record { sent_reply = w.sent_reply; sent_request = w.sent_request; got_reply = w.got_reply; got_request = λ t. refl; close_request = w.close_request; close_reply = w.close_reply; away = w.away; unbegun = w.unbegun; sends = w.sends; unsent = w.unsent; ungot = λ t. absurd (cc) }) (λ z. z) refl (refl, refl, refl)
   got OpenReply e m n w =
       let asked : e.shake.got.open_request ≡ true = three e.shake.got.open_reply e.shake.got.open_request e.shake.got.close_request n in
-      calm q c e (just (kind_got OpenReply e)) (record { sent_reply = w.sent_reply; sent_request = w.sent_request; got_reply = λ t. refl; got_request = λ t. asked; close_request = w.close_request; close_reply = w.close_reply; away = w.away; unbegun = w.unbegun; sends = w.sends; unsent = w.unsent; ungot = w.ungot }) (λ z. z) refl (refl, refl)
+      calm q c e (just (kind_got OpenReply e)) (record { sent_reply = w.sent_reply; sent_request = w.sent_request; got_reply = λ t. refl; got_request = λ t. asked; close_request = w.close_request; close_reply = w.close_reply; away = w.away; unbegun = w.unbegun; sends = w.sends; unsent = w.unsent; ungot = w.ungot }) (λ z. z) refl (refl, refl, refl)
   got OpenComplete e m n w =
       let replied : e.shake.got.open_reply ≡ true = three e.shake.got.open_complete e.shake.got.open_reply e.shake.got.close_request n in
-      calm q c e (just (kind_got OpenComplete e)) (record { sent_reply = w.sent_reply; sent_request = w.sent_request; got_reply = λ t. replied; got_request = w.got_request; close_request = w.close_request; close_reply = w.close_reply; away = w.away; unbegun = w.unbegun; sends = λ t. (let j = w.sends t in (j.0, j.1, refl, j.3)); unsent = w.unsent; ungot = w.ungot }) (λ z. z) refl (refl, refl)
+      calm q c e (just (kind_got OpenComplete e)) (record { sent_reply = w.sent_reply; sent_request = w.sent_request; got_reply = λ t. replied; got_request = w.got_request; close_request = w.close_request; close_reply = w.close_reply; away = w.away; unbegun = w.unbegun; sends = λ t. (let j = w.sends t in (j.0, j.1, refl, j.3)); unsent = w.unsent; ungot = w.ungot }) (λ z. z) refl (refl, refl, refl)
 
   -- with the open request that is handled the receiving side gets its size
   sized : (e : End) (w : ℕ) → e.shake.got.open_request ≡ true → Keeps e (just (record e { sides = record e.sides { pull = record e.sides.pull { entries = (size_in w).entries; limit = (size_in w).limit; copied = []; run = 0 } } }))
-  sized e v t w = calm q c e (just (record e { sides = record e.sides { pull = record e.sides.pull { entries = (size_in v).entries; limit = (size_in v).limit; copied = []; run = 0 } } })) (record { sent_reply = w.sent_reply; sent_request = w.sent_request; got_reply = w.got_reply; got_request = w.got_request; close_request = w.close_request; close_reply = w.close_reply; away = w.away; unbegun = w.unbegun; sends = w.sends; unsent = w.unsent; ungot = λ n. absurd (cc) }) (λ z. z) refl (refl, refl)
+  sized e v t w = calm q c e (just (record e { sides = record e.sides { pull = record e.sides.pull { entries = (size_in v).entries; limit = (size_in v).limit; copied = []; run = 0 } } })) (record { sent_reply = w.sent_reply; sent_request = w.sent_request; got_reply = w.got_reply; got_request = w.got_request; close_request = w.close_request; close_reply = w.close_reply; away = w.away; unbegun = w.unbegun; sends = w.sends; unsent = w.unsent; ungot = λ n. absurd (cc) }) (λ z. z) refl (refl, refl, refl)
 
   requests : (o : Option ℕ) (e : End) → e.shake.got.open_request ≡ true → Keeps e (request_handled o e)
   requests None e t = stays e
@@ -246,7 +257,7 @@ module _ (q c : ℕ) where
   messages e =
       let z : End = record e { shake = record e.shake { taken = without MsgRequest e.shake.taken } } in
       let f : Effect End (List Note) = just (record z { sides = record z.sides { pull = record z.sides.pull { owed = true } } }) in
-      either (is_connected z) e f (just z) (λ t w. calm q c e f (record { sent_reply = w.sent_reply; sent_request = w.sent_request; got_reply = w.got_reply; got_request = w.got_request; close_request = w.close_request; close_reply = w.close_reply; away = w.away; unbegun = w.unbegun; sends = w.sends; unsent = w.unsent; ungot = λ n. absurd (joint_got e w (joint_at e t).2 n) }) (λ y. y) refl (refl, refl)) (λ t w. calm q c e (just z) w (λ y. y) refl (refl, refl))
+      either (is_connected z) e f (just z) (λ t w. calm q c e f (record { sent_reply = w.sent_reply; sent_request = w.sent_request; got_reply = w.got_reply; got_request = w.got_request; close_request = w.close_request; close_reply = w.close_reply; away = w.away; unbegun = w.unbegun; sends = w.sends; unsent = w.unsent; ungot = λ n. absurd (joint_got e w (joint_at e t).2 n) }) (λ y. y) refl (refl, refl, refl)) (λ t w. calm q c e (just z) w (λ y. y) refl (refl, refl, refl))
 
   after_got : (k : Kind) (e : End) (f : Effect End (List Note)) → (k ≡ MsgRequest → ⊥) → refused k e ≡ false → Keeps (kind_got k e) f → Keeps e f
   after_got k e f m n h = then_keeps e (just (kind_got k e)) (λ x. f) (got k e m n) h
@@ -260,12 +271,12 @@ module _ (q c : ℕ) where
   well CloseReply e n = got CloseReply e (λ z. absurd (cc)) n
 
   left_kept : (k : Kind) (e : End) → Keeps e (kind_refused k e)
-  left_kept MsgRequest e w = calm q c e (kind_refused MsgRequest e) w (λ z. z) refl (refl, refl)
-  left_kept OpenRequest e w = calm q c e (kind_refused OpenRequest e) w (λ z. z) refl (refl, refl)
-  left_kept OpenReply e w = calm q c e (kind_refused OpenReply e) w (λ z. z) refl (refl, refl)
-  left_kept CloseRequest e w = calm q c e (kind_refused CloseRequest e) w (λ z. z) refl (refl, refl)
-  left_kept OpenComplete e w = calm q c e (kind_refused OpenComplete e) w (λ z. z) refl (refl, refl)
-  left_kept CloseReply e w = calm q c e (kind_refused CloseReply e) w (λ z. z) refl (refl, refl)
+  left_kept MsgRequest e w = calm q c e (kind_refused MsgRequest e) w (λ z. z) refl (refl, refl, refl)
+  left_kept OpenRequest e w = calm q c e (kind_refused OpenRequest e) w (λ z. z) refl (refl, refl, refl)
+  left_kept OpenReply e w = calm q c e (kind_refused OpenReply e) w (λ z. z) refl (refl, refl, refl)
+  left_kept CloseRequest e w = calm q c e (kind_refused CloseRequest e) w (λ z. z) refl (refl, refl, refl)
+  left_kept OpenComplete e w = calm q c e (kind_refused OpenComplete e) w (λ z. z) refl (refl, refl, refl)
+  left_kept CloseReply e w = calm q c e (kind_refused CloseReply e) w (λ z. z) refl (refl, refl, refl)
 
   handles : (k : Kind) (e : End) → Keeps e (handled k e)
   handles k e = either (refused k e) e (kind_refused k e) (well_handled k e) (λ t. left_kept k e) (well k e)
@@ -279,8 +290,8 @@ module _ (q c : ℕ) where
   settles (suc n) e = let o = next_of e.shake.got.close_request e.shake.taken in then_keeps e (handled_next o e) (settle n) (nexts o e) (settles n (handled_next o e).local)
 
   joined_plain : (b : Bool) → ArePlain (joined_notes b)
-  joined_plain true = (refl, refl)
-  joined_plain false = (refl, refl)
+  joined_plain true = (refl, refl, refl)
+  joined_plain false = (refl, refl, refl)
 
   notes_join : (e : End) → Keeps e (connection_noted e)
   notes_join e w = calm q c e (connection_noted e) w (λ z. z) refl (joined_plain (is_connected e))

@@ -65,6 +65,19 @@ abbrev pub over_in : List Note → List ℕ
 over_in [] = []
 over_in (x ∷ xs) = over_by x ++ over_in xs
 
+-- the gets that notes store
+abbrev pub acks_by : Note → List ℕ
+acks_by (Acked get) = get ∷ []
+acks_by x = []
+
+abbrev pub acks_in : List Note → List ℕ
+acks_in [] = []
+acks_in (x ∷ xs) = acks_by x ++ acks_in xs
+
+pub acks_more : (xs ys : List Note) → acks_in (xs ++ ys) ≡ acks_in xs ++ acks_in ys
+acks_more [] ys = refl
+acks_more (x ∷ xs) ys = ap (λ (ns : List ℕ). acks_by x ++ ns) (acks_more xs ys) ∙ sym (append_assoc (acks_by x) (acks_in xs) (acks_in ys))
+
 pub told_more : (xs ys : List Note) → told_in (xs ++ ys) ≡ told_in xs ++ told_in ys
 told_more [] ys = refl
 told_more (x ∷ xs) ys = ap (λ (ns : List ℕ). told_by x ++ ns) (told_more xs ys) ∙ sym (append_assoc (told_by x) (told_in xs) (told_in ys))
@@ -168,6 +181,7 @@ sends_then e f g a b r = record {
 pub record Tells (q c : ℕ) (e : End) (f : Effect End (List Note)) : Type 0 where
   pub ended : f.local.ended ≡ e.ended ++ over_in f.notes
   pub told : told_in f.notes ≡ []
+  pub acked : acks_in f.notes ≡ []
   pub pending : e.sides.pending_notices ≡ [] → (f.local.sides.pending_notices ≡ []) × (over_in f.notes ≡ [])
   pub explained : (rs : List Recorded) → AreExplained rs → AreExplained (with_notes q c f.notes rs)
 
@@ -177,6 +191,7 @@ tells_then q c e f h a b =
     record {
       ended = b.ended ∙ ap (λ (ns : List ℕ). ns ++ over_in g.notes) a.ended ∙ append_assoc e.ended (over_in f.notes) (over_in g.notes) ∙ ap (λ (ns : List ℕ). e.ended ++ ns) (sym (over_more f.notes g.notes));
       told = told_more f.notes g.notes ∙ (λ i. a.told i ++ b.told i);
+      acked = acks_more f.notes g.notes ∙ (λ i. a.acked i ++ b.acked i);
       pending = λ z. (let x = a.pending z in let y = b.pending x.0 in (y.0, over_more f.notes g.notes ∙ (λ i. x.1 i ++ y.1 i)));
       explained = λ rs k. subst AreExplained (sym (notes_more q c f.notes g.notes rs)) (b.explained (with_notes q c f.notes rs) (a.explained rs k));
     }
@@ -188,6 +203,7 @@ pub record Kept (q c : ℕ) (e : End) (f : Effect End (List Note)) : Type 0 wher
   pub tells : Tells q c e f
   pub sends : Sends e f.local
   pub remains : Remains e f.local
+  pub meet : f.local.shake.meet ≡ e.shake.meet
 
 pub kept_then : (q c : ℕ) (e : End) (f : Effect End (List Note)) (h : End → Effect End (List Note)) → Kept q c e f → Kept q c f.local (h f.local) → Kept q c e (and_then f h)
 kept_then q c e f h a b = record {
@@ -196,10 +212,12 @@ kept_then q c e f h a b = record {
   tells = tells_then q c e f h a.tells b.tells;
   sends = sends_then e f.local (h f.local).local a.sends b.sends b.remains;
   remains = λ r x y. (let k = a.remains r x y in b.remains r k.0 k.1);
+  meet = b.meet ∙ a.meet;
 }
 
 -- a change that none of this sees
 pub record Face : Type 0 where
+  pub meet : Option Contact
   pub ended : List ℕ
   pub pending : List ℕ
   pub reason : Option Reason
@@ -210,10 +228,10 @@ pub record Face : Type 0 where
   pub decided : Option SendAnswer
 
 abbrev pub face : End → Face
-face e = record { ended = e.ended; pending = e.sides.pending_notices; reason = e.shake.reason; closed = e.shake.sent.close_reply; send = e.sides.send.send; put = e.sides.send.put; entries = e.sides.send.entries; decided = e.decided.send }
+face e = record { meet = e.shake.meet; ended = e.ended; pending = e.sides.pending_notices; reason = e.shake.reason; closed = e.shake.sent.close_reply; send = e.sides.send.send; put = e.sides.send.put; entries = e.sides.send.entries; decided = e.decided.send }
 
 abbrev pub ArePlain : List Note → Type 0
-ArePlain ns = (told_in ns ≡ []) × (over_in ns ≡ [])
+ArePlain ns = (told_in ns ≡ []) × (over_in ns ≡ []) × (acks_in ns ≡ [])
 
 pub calm_sends : (e e' : End) → face e' ≡ face e → Sends e e'
 calm_sends e e' s = record {
@@ -225,6 +243,7 @@ pub calm_tells : (q c : ℕ) (e : End) (f : Effect End (List Note)) → f.local.
 calm_tells q c e f a b n = record {
   ended = a ∙ sym (append-nil e.ended) ∙ ap (λ (ns : List ℕ). e.ended ++ ns) (sym n.1);
   told = n.0;
+  acked = n.2;
   pending = λ z. (b ∙ z, n.1);
   explained = λ rs h. plain_explained q c f.notes rs n.1 h;
 }
@@ -236,4 +255,5 @@ calm q c e f w r s n = record {
   tells = calm_tells q c e f (ap (λ (x : Face). x.ended) s) (ap (λ (x : Face). x.pending) s) n;
   sends = calm_sends e f.local s;
   remains = λ y a b. (ap (λ (x : Face). x.reason) s ∙ a, ap (λ (x : Face). x.closed) s ∙ b);
+  meet = ap (λ (x : Face). x.meet) s;
 }

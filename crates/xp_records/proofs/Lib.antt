@@ -1,7 +1,13 @@
 mod Flow
 mod Cascades
+mod Commands
 mod Changes
 mod Parts
 mod Anew
 mod Tally
 mod Recorded
+mod Backing
+mod Acknowledged
+mod Causes
+mod Sends
+mod Answered

@@ -47,9 +47,10 @@ use Rattle.xp_protocol.proofs.Slots.{at_each, at_peer, at_slot}
 use Rattle.xp_protocol.proofs.Frames.{AreAll, links_framed, peers_framed, link_frame, peer_frame, aim_frame, rule_all, act_all, cold_all, wanted_at, idle_at}
 use Rattle.xp_protocol.proofs.Opened.{start_all, opened_fact}
 use Rattle.xp_meetings.proofs.Parts.{Part, part_act, part_ruled, part_moment, part_opened}
-use Rattle.xp_records.proofs.Flow.{FlowAt, RegisteredAt}
+use Rattle.xp_records.proofs.Flow.{FlowAt, RegisteredAt, Sends, calm_sends}
 use Rattle.xp_records.proofs.Cascades.{down_clear}
-use Rattle.xp_records.proofs.Changes.{Orders, Order, order_same, order_of, order_by, linked_order, takes, goes_down, finishes, joins, boots, begun_order, answered_order, went_order}
+use Rattle.xp_records.proofs.Changes.{Orders, Order, order_same, order_of, order_by, linked_order, takes, takes_order, goes_down, down_order, finishes, finished_order, joins, joined_order, boots, begun_order, answered_order}
+use Rattle.xp_records.proofs.Commands.{Still, begun_still, answered_still, noticed_still}
 
 abbrev is_leaving : Area → Bool
 is_leaving Old = false
@@ -149,99 +150,6 @@ booted_away p = record { contact = λ r. refl; apart = λ m c l. at_each (λ (e 
 idle_away : (a : Area) → AwayAt (cold_peer a)
 idle_away a = record { contact = λ r. refl; apart = λ m c l. subst (λ (e : End). e.shake.meet ≡ None) (sym (idle_at c)) refl; fresh = λ l m c k. subst (λ (e : End). is_begun e ≡ false) (sym (idle_at c)) refl }
 
--- what a command leaves of an end's contact: an end that isn't begun stays so
-abbrev Still : End → End → Type 0
-Still e x = (x.shake.meet ≡ e.shake.meet) × (is_begun e ≡ false → is_begun x ≡ false)
-
-sends_still : (o : Option SendAnswer) (e : End) (payload : List ℕ) (wait notify : Bool) → Still e (send_begun o payload wait notify e).local
-sends_still None e payload wait notify = (refl, λ z. z)
-sends_still (Some a) e payload wait notify = (refl, λ z. z)
-
-takes_still : (o : Option TakeRefusal) (e : End) (wait : Bool) → Still e (take_begun o wait e).local
-takes_still None e wait = (refl, λ z. z)
-takes_still (Some a) e wait = (refl, λ z. z)
-
-releases_still : (o : Option ReleaseAnswer) (number : ℕ) (e : End) → Still e (release_begun o number e).local
-releases_still (Some a) number e = (refl, λ z. z)
-releases_still None number e = by (eqb e.sides.ack.front (message_released number e.sides.ack).front) where
-  by : (stays : Bool) → Still e (say (release_held stays number (message_released number e.sides.ack)) (record e { sides = record e.sides { ack = message_released number e.sides.ack; releasing = not stays } })).local
-  by true = (refl, λ z. z)
-  by false = (refl, λ z. z)
-
-drains_still : (o : Option DrainAnswer) (e : End) → Still e (drain_begun o e).local
-drains_still None e = (refl, λ z. z)
-drains_still (Some a) e = (refl, λ z. z)
-
-registers_still : (o : Option Size) (z : Size) (e : End) → Still e (register_begun o z e).local
-registers_still None z e = (refl, λ y. y)
-registers_still (Some first) z e = (refl, λ y. y)
-
-closed_meet : (o : Option Reason) (reason : Reason) (e : End) → (close_now o reason e).local.shake.meet ≡ e.shake.meet
-closed_meet (Some r) reason e = refl
-closed_meet None reason e = ap (λ (z : End). z.shake.meet) (down_clear reason e)
-
-asked_begun : (e : End) → e.shake.sent.open_request ≡ true → is_begun e ≡ false → ⊥
-asked_begun e t f = by e.shake.sent.open_complete t f where
-  by : (a : Bool) → e.shake.sent.open_request ≡ true → ((a || (e.shake.sent.open_request || (e.shake.sent.open_reply || (e.shake.sent.close_request || e.shake.sent.close_reply)))) || is_some e.shake.reason) ≡ false → ⊥
-  by true t f = absurd (cc)
-  by false t f = let z : ((e.shake.sent.open_request || (e.shake.sent.open_reply || (e.shake.sent.close_request || e.shake.sent.close_reply))) || is_some e.shake.reason) ≡ true = rw t refl in absurd (cc)
-
-unregisters_still : (o : Option Size) (e : End) → Still e (unregister_begun o e).local
-unregisters_still None e = (refl, λ z. z)
-unregisters_still (Some z) e = by (e.shake.sent.open_request && not (is_some e.shake.reason)) refl where
-  first : Effect End (List Note)
-  first = say (Withdrawn UnregisterOk ∷ []) (record e { registration = None })
-
-  by : (b : Bool) → (e.shake.sent.open_request && not (is_some e.shake.reason)) ≡ b → Still e (and_then first (λ x. cond b (channel_closed Unregistered x) (just x))).local
-  by true t = (closed_meet e.shake.reason Unregistered first.local, λ f. absurd (asked_begun e (and_parts e.shake.sent.open_request _ t).0 f))
-  by false t = (refl, λ y. y)
-
-begun_still : (e : End) (x : Command) → Still e (end_begun e x).local
-begun_still e (Send k d payload wait notify) = sends_still (refused_send e payload) e payload wait notify
-begun_still e (Take k d wait) = takes_still (take_refusal (link_of e)) e wait
-begun_still e (Release k d number) = releases_still (release_refusal (link_of e) number e.sides.ack) number e
-begun_still e (Drain k d) = drains_still (drain_refusal (link_of e)) e
-begun_still e (Register k d entries limit) = registers_still e.registration (record { entries = entries; limit = limit }) e
-begun_still e (Unregister k d) = unregisters_still e.registration e
-begun_still e (commands.Connected k d) = (refl, λ z. z)
-begun_still e (commands.Closed k d) = (refl, λ z. z)
-begun_still e (commands.Net frame) = (refl, λ z. z)
-begun_still e (commands.Frames count) = (refl, λ z. z)
-begun_still e (commands.Deactivate k) = (refl, λ z. z)
-begun_still e (commands.Activate k) = (refl, λ z. z)
-begun_still e commands.Leave = (refl, λ z. z)
-begun_still e (commands.Idle turns) = (refl, λ z. z)
-begun_still e commands.Offline = (refl, λ z. z)
-begun_still e commands.Online = (refl, λ z. z)
-
-taken_still : (o : Option TakeAnswer) (e : End) → Still e (taken_by o e).local
-taken_still (Some (TakenAnswer number body)) e = (refl, λ z. z)
-taken_still (Some (Empty put)) e = (refl, λ z. z)
-taken_still (Some a) e = (refl, λ z. z)
-taken_still None e = (refl, λ z. z)
-
-take_still : (o : Option TakeRefusal) (e : End) → Still e (take_answered o e).local
-take_still None e = taken_still (take_found e) e
-take_still (Some a) e = (refl, λ z. z)
-
-answered_still : (e : End) (x : Command) → Still e (end_answered e x).local
-answered_still e (Send k d payload wait notify) = (refl, λ z. z)
-answered_still e (Take k d wait) = take_still e.decided.take e
-answered_still e (Release k d number) = (refl, λ z. z)
-answered_still e (Drain k d) = (refl, λ z. z)
-answered_still e (Register k d entries limit) = (refl, λ z. z)
-answered_still e (Unregister k d) = (refl, λ z. z)
-answered_still e (commands.Connected k d) = (refl, λ z. z)
-answered_still e (commands.Closed k d) = (refl, λ z. z)
-answered_still e (commands.Net frame) = (refl, λ z. z)
-answered_still e (commands.Frames count) = (refl, λ z. z)
-answered_still e (commands.Deactivate k) = (refl, λ z. z)
-answered_still e (commands.Activate k) = (refl, λ z. z)
-answered_still e commands.Leave = (refl, λ z. z)
-answered_still e (commands.Idle turns) = (refl, λ z. z)
-answered_still e commands.Offline = (refl, λ z. z)
-answered_still e commands.Online = (refl, λ z. z)
-
 -- all ends of a partition
 pub record Ordered (n : ℕ) (st : State) : Type 0 where
   pub all : AreAll n st.peers
@@ -262,7 +170,7 @@ none_by (Some m) h = absurd (cc)
 -- one end of one partner, after a step for it
 module _ (q c : ℕ) (lc : c < 4) (y : Here) (p : Peer) (n : length p.links ≡ 4) (w : FlowAt (link_at p.links c)) (far : AwayAt p) where
   abbrev Q : End → List Note → Type 0
-  Q e ns = Orders q c (link_at p.links c) e ns
+  Q e ns = Orders q c (link_at p.links c) e ns × Sends (link_at p.links c) e
 
   abbrev In : Effect Peer (ℕ → List Note) → Type 0
   In h = Q (link_at h.local.links c) (h.notes c)
@@ -272,7 +180,7 @@ module _ (q c : ℕ) (lc : c < 4) (y : Here) (p : Peer) (n : length p.links ≡ 
   cond_in false f g x z = z refl
 
   same : Q (link_at p.links c) []
-  same = order_same q c (link_at p.links c) w
+  same = (order_same q c (link_at p.links c) w, calm_sends (link_at p.links c) (link_at p.links c) refl)
 
   joins_in : (z : Peer) → z.links ≡ p.links → z.contact ≡ p.contact → p.engage.area ≡ Ready → In (try_contact y.stamp z)
   joins_in z el ec ready =
@@ -282,7 +190,7 @@ module _ (q c : ℕ) (lc : c < 4) (y : Here) (p : Peer) (n : length p.links ≡ 
       let fresh = far.fresh (ap is_leaving ready) alone c lc in
       let new : Peer = record z { contact = Some (contact_of y.stamp z.engage); engage = record z.engage { state = Active } } in
       let f : ℕ → End → Effect End (List Note) = λ c e. link_joined (contact_of y.stamp z.engage) e in
-      let j = went_order q c (link_at p.links c) (link_joined (contact_of y.stamp z.engage) (link_at p.links c)) w (joins q c (contact_of y.stamp z.engage) (link_at p.links c) fresh w) in
+      let j : Q (link_joined (contact_of y.stamp z.engage) (link_at p.links c)).local (link_joined (contact_of y.stamp z.engage) (link_at p.links c)).notes = (joined_order q c (contact_of y.stamp z.engage) (link_at p.links c) fresh w, (joins q c (contact_of y.stamp z.engage) (link_at p.links c) fresh w).sends) in
       links_framed Q f new c (ap length el ∙ n) lc (subst (λ (ls : List End). Q (f c (link_at ls c)).local (f c (link_at ls c)).notes) (sym el) j))
       (λ t. subst (λ (ls : List End). Q (link_at ls c) []) (sym el) same)
 
@@ -295,10 +203,10 @@ module _ (q c : ℕ) (lc : c < 4) (y : Here) (p : Peer) (n : length p.links ≡ 
 
   left_in : (o : Option Reason) → In (area_left_for o p)
   left_in None = same
-  left_in (Some reason) = links_framed Q (λ c e. link_down reason e) p c n lc (order_of q c (link_at p.links c) (link_down reason (link_at p.links c)) w (goes_down q c reason (link_at p.links c) w))
+  left_in (Some reason) = links_framed Q (λ c e. link_down reason e) p c n lc (down_order q c reason (link_at p.links c) w, (goes_down q c reason (link_at p.links c) w).sends)
 
   peered : (m : PeerRule) (v : ℕ) → peer_can y p m → In (peer_effect y p m v)
-  peered TakeFlags v can = cond_in (is_bad_flags v) _ _ (λ t. same) (λ t. links_framed Q (λ c e. flags_got (kinds_in v c) e) p c n lc (order_of q c (link_at p.links c) (flags_got (kinds_in v c) (link_at p.links c)) w (takes q c (kinds_in v c) (link_at p.links c) w)))
+  peered TakeFlags v can = cond_in (is_bad_flags v) _ _ (λ t. same) (λ t. links_framed Q (λ c e. flags_got (kinds_in v c) e) p c n lc (takes_order q c (kinds_in v c) (link_at p.links c) w, (takes q c (kinds_in v c) (link_at p.links c) w).sends))
   peered CloseArea v can = left_in p.engage.reason
   peered ReadRecord v can = read_in p.engage.reading v can.0
   peered StoreSecond v can = joins_in (record p { engage = record p.engage { second = true } }) refl refl can.0
@@ -319,7 +227,7 @@ module _ (q c : ℕ) (lc : c < 4) (y : Here) (p : Peer) (n : length p.links ≡ 
       (λ t.
       let left = (and_parts (is_left p.engage) _ t).0 in
       let apart = far.apart (far.contact (not_ready p.engage left)) c lc in
-      links_framed Q (λ c e. link_finished e) p c n lc (went_order q c (link_at p.links c) (link_finished (link_at p.links c)) w (finishes q c (link_at p.links c) apart w)))
+      links_framed Q (λ c e. link_finished e) p c n lc (finished_order q c (link_at p.links c) apart w, (finishes q c (link_at p.links c) apart w).sends))
       (λ t. same)
 
   told : (v k : ℕ) → In (deactivation_heard v k p)
@@ -358,6 +266,10 @@ numbered_can y (Some mark) p LookAtPage h = h
 numbered_can y (Some mark) p ClearDeactivationBit h = h
 numbered_can y (Some mark) p TellPartner h = h
 
+abbrev pub IsWide : Rule → Type 0
+IsWide (Link j d m) = ⊥
+IsWide r = Unit {0}
+
 abbrev pub IsCommand : Act → Type 0
 IsCommand Begun = Unit {0}
 IsCommand Answered = Unit {0}
@@ -365,14 +277,44 @@ IsCommand (Noticed q c number how) = ⊥
 
 module _ (su : ScenarioPart) (law : IsLawfulPart su) (st : State) (h : Ordered su.count st) where
   -- a rule
-  ruled_peer : (j : ℕ) (m : PeerRule) (v : ℕ) → peer_can (here_of su st j) (peer_of st j) m → (c : ℕ) → c < 4 → j < su.count → (q : ℕ) → (let f = peer_effect (here_of su st j) (peer_numbered (mark_of su st (ForPeer j m)) (peer_of st j)) m v in Orders q c (end_of st j c) (link_at f.local.links c) (f.notes c))
+  ruled_peer : (j : ℕ) (m : PeerRule) (v : ℕ) → peer_can (here_of su st j) (peer_of st j) m → (c : ℕ) → c < 4 → j < su.count → (q : ℕ) → (let f = peer_effect (here_of su st j) (peer_numbered (mark_of su st (ForPeer j m)) (peer_of st j)) m v in Orders q c (end_of st j c) (link_at f.local.links c) (f.notes c) × Sends (end_of st j c) (link_at f.local.links c))
   ruled_peer j m v can c lc lj q =
       let mark = mark_of su st (ForPeer j m) in
       let p = peer_numbered mark (peer_of st j) in
       let ls = numbered_links mark (peer_of st j) in
       let f = peer_effect (here_of su st j) p m v in
-      subst (λ (e : End). Orders q c e (link_at f.local.links c) (f.notes c)) (ap (λ (xs : List End). link_at xs c) ls)
+      subst (λ (e : End). Orders q c e (link_at f.local.links c) (f.notes c) × Sends e (link_at f.local.links c)) (ap (λ (xs : List End). link_at xs c) ls)
       (peered q c lc (here_of su st j) p (ap length ls ∙ h.all.channels j) (subst (λ (xs : List End). FlowAt (link_at xs c)) (sym ls) (h.flows j c lj lc)) (numbered_away mark (peer_of st j) (h.away j lj)) m v (numbered_can (here_of su st j) mark (peer_of st j) m can))
+
+  -- of every step but one at an end: what it keeps, and what becomes of the send in progress
+  abbrev Both : ℕ → ℕ → End → List Note → Type 0
+  Both q c e ns = Orders q c (end_of st q c) e ns × Sends (end_of st q c) e
+
+  both_same : (q c : ℕ) → q < su.count → c < 4 → Both q c (end_of st q c) []
+  both_same q c lq lc = (order_same q c (end_of st q c) (h.flows q c lq lc), calm_sends (end_of st q c) (end_of st q c) refl)
+
+  rule_both : (r : Rule) (a : Answer) → IsWide r → Can su st r → (q c : ℕ) → q < su.count → c < 4 → Both q c (end_of (after_answer su st r a) q c) (noted_rule su st r a q c)
+  rule_both (Link j d m) a is can q c lq lc = absurd is
+  rule_both (ForPeer j m) (Word v) is can q c lq lc =
+      let f = peer_effect (here_of su st j) (peer_numbered (mark_of su st (ForPeer j m)) (peer_of st j)) m v in
+      peer_frame (λ e ns. Both q c e ns) su st j m (Word v) q c h.all can.1.0.low
+      (λ e. subst (λ (x : ℕ). Orders q c (end_of st x c) (link_at f.local.links c) (f.notes c) × Sends (end_of st x c) (link_at f.local.links c)) e (ruled_peer j m v can.1.1 c lc can.1.0.low q)) (λ o. both_same q c lq lc)
+  rule_both (ForPeer j m) Failed is can q c lq lc =
+      let mark = mark_of su st (ForPeer j m) in
+      peer_frame (λ e ns. Both q c e ns) su st j m Failed q c h.all can.1.0.low
+      (λ e. subst (λ (x : ℕ). Orders q c (end_of st x c) (link_at (peer_failed mark (peer_of st j)).links c) [] × Sends (end_of st x c) (link_at (peer_failed mark (peer_of st j)).links c)) e (failed q c lc (here_of su st j) (peer_of st j) (h.all.channels j) (h.flows j c can.1.0.low lc) (h.away j can.1.0.low) mark)) (λ o. both_same q c lq lc)
+  rule_both (Own ReadEngaged) (Word v) is can q c lq lc = peers_framed (λ e ns. Both q c e ns) (peer_read v) st.peers q c h.all lq (freed q c lc (here_of su st q) (peer_at st.peers q) (h.all.channels q) (h.flows q c lq lc) (h.away q lq) v q)
+  rule_both (Own TakeDeactivation) (Word v) is can q c lq lc = peers_framed (λ e ns. Both q c e ns) (deactivation_heard v) st.peers q c h.all lq (told q c lc (here_of su st q) (peer_at st.peers q) (h.all.channels q) (h.flows q c lq lc) (h.away q lq) v q)
+  rule_both (Own ReadStamp) (Word v) is can q c lq lc = both_same q c lq lc
+  rule_both (Own ZeroMask) (Word v) is can q c lq lc = both_same q c lq lc
+  rule_both (Own ZeroOffline) (Word v) is can q c lq lc = both_same q c lq lc
+  rule_both (Own WriteStamp) (Word v) is can q c lq lc = both_same q c lq lc
+  rule_both (Own StoreMask) (Word v) is can q c lq lc = both_same q c lq lc
+  rule_both (Own TakeActivation) (Word v) is can q c lq lc = both_same q c lq lc
+  rule_both (Own m) Failed is can q c lq lc = both_same q c lq lc
+
+  pub rule_sends : (r : Rule) (a : Answer) → IsWide r → Can su st r → (q c : ℕ) → q < su.count → c < 4 → Sends (end_of st q c) (end_of (after_answer su st r a) q c)
+  rule_sends r a is can q c lq lc = (rule_both r a is can q c lq lc).1
 
   pub rule_orders : (r : Rule) (a : Answer) → Can su st r → (q c : ℕ) → q < su.count → c < 4 → Orders q c (end_of st q c) (end_of (after_answer su st r a) q c) (noted_rule su st r a q c)
   rule_orders (Link j d m) a can q c lq lc =
@@ -380,23 +322,8 @@ module _ (su : ScenarioPart) (law : IsLawfulPart su) (st : State) (h : Ordered s
       link_frame (λ e ns. Orders q c (end_of st q c) e ns) su st j d m a q c h.all can.1.0.peer.0 can.1.0.peer.2
       (λ e g. subst (λ (x : ℕ). Orders q c (end_of st x c) f.local f.notes) e (subst (λ (x : ℕ). Orders q c (end_of st j x) f.local f.notes) g (linked_order q c (mark_of su st (Link j d m)) (place_for su d) (end_of st j d) m a can.1.1 (h.flows j d can.1.0.peer.0 can.1.0.peer.2))))
       (λ o. order_same q c (end_of st q c) (h.flows q c lq lc))
-  rule_orders (ForPeer j m) (Word v) can q c lq lc =
-      let f = peer_effect (here_of su st j) (peer_numbered (mark_of su st (ForPeer j m)) (peer_of st j)) m v in
-      peer_frame (λ e ns. Orders q c (end_of st q c) e ns) su st j m (Word v) q c h.all can.1.0.low
-      (λ e. subst (λ (x : ℕ). Orders q c (end_of st x c) (link_at f.local.links c) (f.notes c)) e (ruled_peer j m v can.1.1 c lc can.1.0.low q)) (λ o. order_same q c (end_of st q c) (h.flows q c lq lc))
-  rule_orders (ForPeer j m) Failed can q c lq lc =
-      let mark = mark_of su st (ForPeer j m) in
-      peer_frame (λ e ns. Orders q c (end_of st q c) e ns) su st j m Failed q c h.all can.1.0.low
-      (λ e. subst (λ (x : ℕ). Orders q c (end_of st x c) (link_at (peer_failed mark (peer_of st j)).links c) []) e (failed q c lc (here_of su st j) (peer_of st j) (h.all.channels j) (h.flows j c can.1.0.low lc) (h.away j can.1.0.low) mark)) (λ o. order_same q c (end_of st q c) (h.flows q c lq lc))
-  rule_orders (Own ReadEngaged) (Word v) can q c lq lc = peers_framed (λ e ns. Orders q c (end_of st q c) e ns) (peer_read v) st.peers q c h.all lq (freed q c lc (here_of su st q) (peer_at st.peers q) (h.all.channels q) (h.flows q c lq lc) (h.away q lq) v q)
-  rule_orders (Own TakeDeactivation) (Word v) can q c lq lc = peers_framed (λ e ns. Orders q c (end_of st q c) e ns) (deactivation_heard v) st.peers q c h.all lq (told q c lc (here_of su st q) (peer_at st.peers q) (h.all.channels q) (h.flows q c lq lc) (h.away q lq) v q)
-  rule_orders (Own ReadStamp) (Word v) can q c lq lc = order_same q c (end_of st q c) (h.flows q c lq lc)
-  rule_orders (Own ZeroMask) (Word v) can q c lq lc = order_same q c (end_of st q c) (h.flows q c lq lc)
-  rule_orders (Own ZeroOffline) (Word v) can q c lq lc = order_same q c (end_of st q c) (h.flows q c lq lc)
-  rule_orders (Own WriteStamp) (Word v) can q c lq lc = order_same q c (end_of st q c) (h.flows q c lq lc)
-  rule_orders (Own StoreMask) (Word v) can q c lq lc = order_same q c (end_of st q c) (h.flows q c lq lc)
-  rule_orders (Own TakeActivation) (Word v) can q c lq lc = order_same q c (end_of st q c) (h.flows q c lq lc)
-  rule_orders (Own m) Failed can q c lq lc = order_same q c (end_of st q c) (h.flows q c lq lc)
+  rule_orders (ForPeer j m) a can q c lq lc = (rule_both (ForPeer j m) a tt can q c lq lc).0
+  rule_orders (Own m) a can q c lq lc = (rule_both (Own m) a tt can q c lq lc).0
 
   rule_away : (r : Rule) (a : Answer) → Can su st r → (q : ℕ) → q < su.count → AwayAt (peer_of (after_answer su st r a) q)
   rule_away (Link j d m) a can q lq =
@@ -428,7 +355,7 @@ module _ (su : ScenarioPart) (law : IsLawfulPart su) (st : State) (h : Ordered s
   -- an act: of a command its end keeps the order, and a notice takes a number from it
   abbrev AimKeeps : Option Aim → Type 0
   AimKeeps None = Unit {0}
-  AimKeeps (Some y) = (y.partner < su.count) × (y.channel < 4) × ((q c : ℕ) → Order q c (end_of st y.partner y.channel) y.effect) × Still (end_of st y.partner y.channel) y.effect.local
+  AimKeeps (Some y) = (y.partner < su.count) × (y.channel < 4) × ((q c : ℕ) → Order q c (end_of st y.partner y.channel) y.effect) × Still (end_of st y.partner y.channel) y.effect
 
   aim_orders : (x : Option Aim) → AimKeeps x → (q c : ℕ) → q < su.count → c < 4 → Orders q c (end_of st q c) (end_of (with_aim x st) q c) (noted_aim x q c)
   aim_orders None b q c lq lc = order_same q c (end_of st q c) (h.flows q c lq lc)
@@ -436,9 +363,10 @@ module _ (su : ScenarioPart) (law : IsLawfulPart su) (st : State) (h : Ordered s
       (λ e g. subst (λ (x : ℕ). Orders q c (end_of st x c) y.effect.local y.effect.notes) e (subst (λ (x : ℕ). Orders q c (end_of st y.partner x) y.effect.local y.effect.notes) g (b.2 q c)))
       (order_same q c (end_of st q c) (h.flows q c lq lc))
 
-  still_away : (k d : ℕ) (x : End) → k < su.count → Still (end_of st k d) x → AwayAt (set_link (peer_of st k) d x)
-  still_away k d x lk s =
+  still_away : (k d : ℕ) (f : Effect End (List Note)) → k < su.count → Still (end_of st k d) f → AwayAt (set_link (peer_of st k) d f.local)
+  still_away k d f lk s =
       let old = h.away k lk in
+      let x = f.local in
       record {
         contact = old.contact;
         apart = λ m c l. at_slot (λ (e : End). e.shake.meet ≡ None) (peer_of st k).links d c x idle_end (λ e. s.0 ∙ subst (λ (j : ℕ). (end_of st k j).shake.meet ≡ None) e (old.apart m c l)) (old.apart m c l);
@@ -447,7 +375,7 @@ module _ (su : ScenarioPart) (law : IsLawfulPart su) (st : State) (h : Ordered s
 
   aim_away : (x : Option Aim) → AimKeeps x → (q : ℕ) → q < su.count → AwayAt (peer_of (with_aim x st) q)
   aim_away None b q lq = h.away q lq
-  aim_away (Some y) b q lq = at_peer AwayAt st.peers y.partner _ q (λ e. still_away y.partner y.channel y.effect.local b.0 b.3) (h.away q lq)
+  aim_away (Some y) b q lq = at_peer AwayAt st.peers y.partner _ q (λ e. still_away y.partner y.channel y.effect b.0 b.3) (h.away q lq)
 
   begun_by : (x : Command) (o : Option EndName) → IsNamed su.count o → AimKeeps (aim_by st end_begun x o)
   begun_by x None b = tt
@@ -483,9 +411,9 @@ module _ (su : ScenarioPart) (law : IsLawfulPart su) (st : State) (h : Ordered s
   noticed_flow Ended number e w = w
   noticed_flow Delivered number e w = record { sent_reply = w.sent_reply; sent_request = w.sent_request; got_reply = w.got_reply; got_request = w.got_request; close_request = w.close_request; close_reply = w.close_reply; away = w.away; unbegun = λ z. ap without_first (w.unbegun z); sends = w.sends; unsent = w.unsent; ungot = w.ungot }
 
-  noticed_same : (how : NoticeKind) (number : ℕ) (e : End) → Still e (end_noticed how number e).local × (RegisteredAt e → RegisteredAt (end_noticed how number e).local)
-  noticed_same Ended number e = ((refl, λ z. z), λ z. z)
-  noticed_same Delivered number e = ((refl, λ z. z), λ z. z)
+  noticed_registered : (how : NoticeKind) (number : ℕ) (e : End) → RegisteredAt e → RegisteredAt (end_noticed how number e).local
+  noticed_registered Ended number e h = h
+  noticed_registered Delivered number e h = h
 
   ordered_noticed : (k d number : ℕ) (how : NoticeKind) → (k < su.count) × (d < 4) → Ordered su.count (after_act su st (Noticed k d number how))
   ordered_noticed k d number how low =
@@ -494,8 +422,8 @@ module _ (su : ScenarioPart) (law : IsLawfulPart su) (st : State) (h : Ordered s
       record {
         all = act_all su st (Noticed k d number how) h.all;
         flows = λ q c lq lc. aim_frame (λ e ns. FlowAt e) st y q c h.all low.0 low.1 (λ f g. noticed_flow how number e (h.flows k d low.0 low.1)) (h.flows q c lq lc);
-        registered = λ q c lq lc. aim_frame (λ e ns. RegisteredAt e) st y q c h.all low.0 low.1 (λ f g. (noticed_same how number e).1 (h.registered k d low.0 low.1)) (h.registered q c lq lc);
-        away = λ q lq. at_peer AwayAt st.peers k _ q (λ f. still_away k d (end_noticed how number e).local low.0 (noticed_same how number e).0) (h.away q lq);
+        registered = λ q c lq lc. aim_frame (λ e ns. RegisteredAt e) st y q c h.all low.0 low.1 (λ f g. noticed_registered how number e (h.registered k d low.0 low.1)) (h.registered q c lq lc);
+        away = λ q lq. at_peer AwayAt st.peers k _ q (λ f. still_away k d (end_noticed how number e) low.0 (noticed_still how number e)) (h.away q lq);
       }
 
   ordered_command : (x : Act) → IsCommand x → Ordered su.count (after_act su st x)

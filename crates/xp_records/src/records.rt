@@ -6,7 +6,8 @@ ghost use Rattle.xp_script.specs.declared.scenario.Scenario.{Scenario};
 ghost use Rattle.xp_script.specs.Lawful.{IsLawful};
 ghost use Rattle.xp_protocol.specs.Reached.{ReachedWords};
 ghost use Rattle.xp_records.specs.Anew.{SidesAnew};
-ghost use Rattle.xp_records.specs.Noticed.{NoticesRecorded};
+ghost use Rattle.xp_records.specs.Answers.{SendAnswers};
+ghost use Rattle.xp_records.specs.Noticed.{DeliveredAcknowledged, NoticesRecorded};
 
 /// Whatever history the rules reach in a lawful scenario: until an end sends the open request of an
 /// epoch its sending side is as new, and until it handles the partner's its receiving side is. So no
@@ -23,4 +24,20 @@ pub fn sides_anew()
 pub fn notices_recorded()
     ensures { (s : Scenario) → IsLawful s →
         (h : List Event) (m : Memory) → ReachedWords s h m → NoticesRecorded s h }
+{}
+
+/// Whatever history the rules reach in a lawful scenario: a number is told as delivered only once
+/// the partner has acknowledged it, in each connection that ever was, however long it is over.
+pub fn delivered_acknowledged()
+    ensures { (s : Scenario) → IsLawful s →
+        (h : List Event) (m : Memory) → ReachedWords s h m → DeliveredAcknowledged s h }
+{}
+
+/// Whatever history the rules reach in a lawful scenario: the log's entries of sends are those of
+/// the sends of the turns, and each send that is answered is answered for the first cause that holds
+/// over its steps: the payload is too long, the link closes or isn't connected, the queue is full and
+/// the send may not wait, the link began to close, the message was accepted.
+pub fn sends_answered()
+    ensures { (s : Scenario) → IsLawful s →
+        (h : List Event) (m : Memory) → ReachedWords s h m → SendAnswers s h }
 {}
