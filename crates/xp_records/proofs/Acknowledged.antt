@@ -1,7 +1,7 @@
 -- A number is told as delivered only once the partner has acknowledged it, in each connection that ever was: of all partitions at once, whichever moves.
-use Rattle.std.proofs.Common.{◌≡◌, ℕ, zero, suc, ◌+◌, ◌<◌, ◌≤◌, arith, Bool, true, false, ◌&&◌, not, cond, eqb, ltb, List, [], ◌∷◌, ◌++◌, length, refl, ap, sym, ◌∙◌, subst, Option, Some, None, inl, inr, ◌⊎◌}
+use Rattle.std.proofs.Common.{◌≡◌, ℕ, zero, suc, ◌<◌, arith, Bool, true, false, ◌&&◌, not, cond, eqb, ltb, List, [], ◌∷◌, refl, ap, sym, ◌∙◌, subst, Option, Some, None, inl, inr, ◌⊎◌}
 use Rattle.std.specs.Prelude.{slice_get, is_some}
-use Rattle.std.specs.List.{Contains, All}
+use Rattle.std.specs.List.{Contains}
 use Rattle.std.proofs.lemmas.Bool.{cases_eq, ne_eqb, ltb-true}
 use Rattle.std.proofs.lemmas.List.Elements.{All-contains, All-nil}
 use Rattle.xp_base.specs.Memory.{Memory}
@@ -24,7 +24,7 @@ use Rattle.xp_protocol.specs.Acts.{Aim, MayAct, after_act, aimed, noted_aim, not
 use Rattle.xp_protocol.specs.Runs.{start, turned, moment_by, restart_comes, stop_comes, is_over, restarted}
 use Rattle.xp_protocol.specs.Logged.{is_at, opened_records}
 use Rattle.xp_protocol.specs.Reached.{ReachedWords}
-use Rattle.xp_protocol.specs.Promised.{IsLine, IsRecord, Name, name_of, exchanged, by_name, first_named, acked_of, records_of, other}
+use Rattle.xp_protocol.specs.Promised.{IsLine, Name, name_of, first_named, acked_of, records_of}
 use Rattle.xp_protocol.proofs.LawfulParts.{lawful_part}
 use Rattle.xp_protocol.proofs.Slots.{at_each}
 use Rattle.xp_protocol.proofs.Frames.{aim_frame, idle_at}
@@ -32,9 +32,8 @@ use Rattle.xp_protocol.proofs.Opened.{opened_fact}
 use Rattle.xp_meetings.proofs.Words.{Words, Agrees}
 use Rattle.xp_meetings.proofs.Always.{at_one, one_here, does_rule, answer_word}
 use Rattle.xp_meetings.proofs.Opening.{opening_words}
-use Rattle.xp_meetings.proofs.Parts.{Part, part_opened, part_start, part_act, part_ruled, part_moment, from_books}
+use Rattle.xp_meetings.proofs.Parts.{Part, part_start, part_act, part_ruled, part_moment, from_books}
 use Rattle.xp_promises.proofs.Books.{names, Apart}
-use Rattle.xp_promises.proofs.Owns.{LocalAt, Owned}
 use Rattle.xp_promises.proofs.Before.{whole, part_at}
 use Rattle.xp_promises.proofs.Reuses.{Both, both_act, both_rule, both_failed, both_moment, both_first, fine_known, other_acked}
 use Rattle.xp_records.specs.Noticed.{DeliveredAcknowledged}

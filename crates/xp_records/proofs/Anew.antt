@@ -1,8 +1,7 @@
 -- The order of each end after every history, and so that the sides of each are as new before its open requests.
-use Rattle.std.proofs.Common.{◌≡◌, ℕ, ◌+◌, ◌<◌, List, [], ◌∷◌, refl, sym, subst, Option, Some, None}
+use Rattle.std.proofs.Common.{ℕ, ◌+◌, ◌<◌, List, [], ◌∷◌, sym, subst, Option, Some, None}
 use Rattle.xp_base.specs.Memory.{Memory}
 use Rattle.xp_base.specs.History.{Act, Marked, Turn, Event, turns_of}
-use Rattle.xp_base.specs.declared.step.Answer.{Answer}
 use Rattle.xp_protocol.specs.declared.rule.Rule.{Rule}
 use Rattle.xp_script.specs.declared.scenario.Scenario.{Scenario}
 use Rattle.xp_script.specs.declared.part.ScenarioPart.{ScenarioPart}
@@ -10,11 +9,10 @@ use Rattle.xp_script.specs.Parts.{part_of}
 use Rattle.xp_script.specs.Lawful.{IsLawful}
 use Rattle.xp_protocol.specs.Parts.{IsLawfulPart}
 use Rattle.xp_protocol.specs.State.{State, End, end_of, opened_state}
-use Rattle.xp_protocol.specs.Rules.{Can, after_answer}
-use Rattle.xp_protocol.specs.Acts.{MayAct, MayActs, after_act, after_acts}
-use Rattle.xp_protocol.specs.Runs.{MayStep, MayMake, May, RunsFrom, start, after_ruled, after_step, after_turn, state_after, acted}
+use Rattle.xp_protocol.specs.Acts.{MayActs, after_act, after_acts}
+use Rattle.xp_protocol.specs.Runs.{MayMake, May, RunsFrom, start, after_ruled, after_step, after_turn, state_after, acted}
 use Rattle.xp_protocol.specs.Reached.{ReachedWords, state_at}
-use Rattle.xp_protocol.specs.Promised.{IsLine, known_acted}
+use Rattle.xp_protocol.specs.Promised.{known_acted}
 use Rattle.xp_protocol.proofs.LawfulParts.{lawful_part}
 use Rattle.xp_records.specs.Anew.{IsAnew, SidesAnew}
 use Rattle.xp_records.proofs.Flow.{FlowAt}

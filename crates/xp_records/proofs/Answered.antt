@@ -1,10 +1,9 @@
 -- Each send of every history is answered for the first cause that it met, and the log has exactly the sends of the turns.
-use Rattle.std.proofs.Common.{◌≡◌, ℕ, zero, suc, ◌+◌, ◌-◌, ◌<◌, arith, Bool, true, false, not, ◌&&◌, cond, List, [], ◌∷◌, ◌++◌, refl, ap, sym, ◌∙◌, subst, append_assoc, Option, Some, None, inl, inr, ◌⊎◌}
+use Rattle.std.proofs.Common.{◌≡◌, ℕ, ◌+◌, ◌-◌, ◌<◌, arith, Bool, true, false, not, ◌&&◌, cond, List, [], ◌∷◌, ◌++◌, refl, ap, sym, ◌∙◌, subst, append_assoc, Option, Some, None, inl, inr, ◌⊎◌}
 use Rattle.std.specs.Prelude.{is_some, slice_get, IsSome}
 use Rattle.std.proofs.lemmas.List.{append-nil}
 use Rattle.xp_base.specs.Memory.{Memory}
 use Rattle.xp_base.specs.History.{Act, Begun, Answered, Noticed, Marked, Turn, Event, turns_of}
-use Rattle.xp_base.specs.declared.answer.SendAnswer.TheVariants.{Ok as SendOk}
 use Rattle.xp_script.specs.Commands.{verb_of}
 use Rattle.xp_script.specs.declared.command.Command.{Command}
 use Rattle.xp_script.specs.declared.command.Command.TheVariants.{Send, Take, Release, Drain, Register, Unregister}
@@ -25,7 +24,7 @@ use Rattle.xp_protocol.specs.State.{State, End, Peer, Old, cold_peer, idle_end, 
 use Rattle.xp_protocol.specs.Linking.{booted_end}
 use Rattle.xp_protocol.specs.Peering.{booted_peer}
 use Rattle.xp_protocol.specs.Acts.{aimed, MayAct, MayActs, after_act, after_acts, upcoming, current, due, due_to}
-use Rattle.xp_protocol.specs.Runs.{MayMake, MayStep, May, RunsFrom, start, acted, after_ruled, after_step, after_turn, state_after, turned, moment, moment_by, restarted, restart_comes, stop_comes, is_over}
+use Rattle.xp_protocol.specs.Runs.{MayMake, RunsFrom, start, acted, after_ruled, after_step, after_turn, state_after, turned, moment, moment_by, restarted, restart_comes, stop_comes, is_over}
 use Rattle.xp_protocol.specs.Logged.{begun_entry, last_answered, entries_act, entries_acts, entries_turn, entries_from}
 use Rattle.xp_protocol.specs.Reached.{ReachedWords}
 use Rattle.xp_protocol.proofs.LawfulParts.{lawful_part}
@@ -34,8 +33,8 @@ use Rattle.xp_protocol.proofs.Frames.{idle_at}
 use Rattle.xp_protocol.proofs.Opened.{opened_fact}
 use Rattle.xp_records.specs.Answers.{SendRun, begun_send, answered_send, sends_act, sends_acts, is_send, is_sending, stepped, sends_step, sends_turn, sends_from, sends_of, entries_of, send_entry, send_entries, entry_of, entries_given, SendAnswers}
 use Rattle.xp_records.proofs.Parts.{Ordered, ordered_act, ordered_moment, ordered_first}
-use Rattle.xp_records.proofs.Anew.{ordered_step, ordered_start}
-use Rattle.xp_records.proofs.Sends.{IsBusy, SendsTo, Each, Caused, SendsOf, Unaccepted, unaccepted, aim_boots, both_now, sends_made, begins, answers, notices, notices_calm}
+use Rattle.xp_records.proofs.Anew.{ordered_step}
+use Rattle.xp_records.proofs.Sends.{IsBusy, SendsOf, Unaccepted, unaccepted, aim_boots, both_now, sends_made, begins, answers, notices, notices_calm}
 
 -- the log and the sends: the same entries of sends; and the last entry is that of the command in progress
 pub record Logs (su : ScenarioPart) (st : State) (es : List Entry) (xs : List SendRun) : Type 0 where

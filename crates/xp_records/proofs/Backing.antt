@@ -1,10 +1,10 @@
 -- What an end has stored as get only grows in its records, by their names; and what is known of it stands under the numbers that the partner's records have as delivered.
-use Rattle.std.proofs.Common.{◌≡◌, ℕ, ◌+◌, ◌<◌, ◌≤◌, arith, Bool, true, false, ◌||◌, cond, List, [], ◌∷◌, ◌++◌, refl, ap, sym, ◌∙◌, subst, Option, Some, None, inl, inr, ◌⊎◌}
+use Rattle.std.proofs.Common.{◌≡◌, ℕ, ◌<◌, ◌≤◌, arith, Bool, true, false, ◌||◌, cond, List, [], ◌∷◌, ◌++◌, refl, ap, sym, ◌∙◌, subst, Some, inl, inr, ◌⊎◌}
 use Rattle.std.specs.Prelude.{slice_get}
 use Rattle.std.specs.List.{All}
 use Rattle.std.proofs.lemmas.List.Elements.{All-nil, All-push, All-weaker}
 use Rattle.xp_protocol.specs.Records.{Recorded, blank_record}
-use Rattle.xp_protocol.specs.Effects.{Accepted, Sent, Note, BySend, ByPull, Began, Joined, Taken, Freed, Acked, Told, ToldOver, Over, Released, Drained, Registered, Withdrawn, with_note, with_notes, in_record}
+use Rattle.xp_protocol.specs.Effects.{Accepted, Note, BySend, Began, Acked, Told, with_note, with_notes, in_record}
 use Rattle.xp_protocol.specs.State.{End, is_begun}
 use Rattle.xp_protocol.specs.Promised.{Name, name_of, exchanged, is_name, by_name, first_named, acked_of}
 use Rattle.xp_promises.proofs.Books.{names, Missing, Apart, name_is}

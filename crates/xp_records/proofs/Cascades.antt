@@ -1,26 +1,23 @@
 -- What one flag, one argument or one reason sets going at an end keeps the order of its epoch.
-use Rattle.std.proofs.Common.{◌≡◌, ℕ, zero, suc, ◌+◌, Bool, true, false, ◌&&◌, ◌||◌, not, cond, eqb, List, [], ◌∷◌, ◌++◌, map, refl, ap, sym, ◌∙◌, subst, Option, Some, None, inl, inr, ◌⊎◌}
+use Rattle.std.proofs.Common.{◌≡◌, ℕ, zero, suc, Bool, true, false, ◌&&◌, ◌||◌, not, cond, List, [], ◌∷◌, ◌++◌, map, refl, ap, sym, ◌∙◌, subst, Option, Some, None, inl, inr, ◌⊎◌}
 use Rattle.std.specs.Prelude.{is_some}
-use Rattle.std.proofs.lemmas.Bool.{and_parts, cases_Bool}
-use Rattle.std.proofs.lemmas.List.{append-nil}
+use Rattle.std.proofs.lemmas.Bool.{and_parts}
 use Rattle.xp_base.specs.declared.link.Kind.{Kind}
 use Rattle.xp_base.specs.declared.link.Kind.TheVariants.{CloseRequest, CloseReply, OpenRequest, OpenReply, OpenComplete, MsgRequest}
-use Rattle.xp_base.specs.declared.answer.SendAnswer.{SendAnswer}
 use Rattle.xp_base.specs.declared.answer.SendAnswer.TheVariants.{Disconnecting}
 use Rattle.xp_base.specs.declared.reason.Reason.{Reason}
 use Rattle.xp_base.specs.declared.reason.Reason.TheVariants.{UnequalSizes, BadArgs, PartnerClosed}
-use Rattle.xp_base.specs.Kinds.{Kinds, without, next_of}
+use Rattle.xp_base.specs.Kinds.{without, next_of}
 use Rattle.xp_protocol.specs.Records.{Recorded}
-use Rattle.xp_protocol.specs.Effects.{Effect, just, and_then, Sent, TakeRefused, Note, BySend, ByPull, ToldOver, Over, Released, Drained, Registered, Withdrawn, with_notes}
-use Rattle.xp_protocol.specs.Sending.{Sending, Send, new_sending, send_over, closed_send}
-use Rattle.xp_protocol.specs.Pulling.{Pulling, new_pulling, pull_closed, closed_take}
-use Rattle.xp_protocol.specs.State.{End, Size, Replied, Contact, nothing_decided, is_begun, is_connected, any_kind, size_in}
-use Rattle.xp_protocol.specs.Linking.{hear, hears, down_notes, down_end, closed_release, closed_drain, close_now, over_note, over_notes, open_notes, opened_notes, channel_closed, epoch_over, is_ended, unequal, are_unequal, changed, request_handled, reply_handled, code_handled, is_request, is_code, kind_got, kind_refused, refused, well_handled, handled, has_argument, handled_next, settle, settled as all_settled, joined_notes, connection_noted, with_taken}
-use Rattle.xp_meetings.proofs.Parts.{notes_more}
-use Rattle.xp_promises.proofs.Steps.{AreSilent, silent_notes, silent_hears}
+use Rattle.xp_protocol.specs.Effects.{Effect, just, and_then, Sent, TakeRefused, Note, BySend, ByPull, ToldOver, Released, Drained, Registered, Withdrawn, with_notes}
+use Rattle.xp_protocol.specs.Sending.{Sending, Send, send_over, closed_send}
+use Rattle.xp_protocol.specs.Pulling.{Pulling, pull_closed, closed_take}
+use Rattle.xp_protocol.specs.State.{End, Replied, Contact, nothing_decided, is_begun, is_connected, any_kind, size_in}
+use Rattle.xp_protocol.specs.Linking.{hear, hears, down_notes, down_end, closed_release, closed_drain, close_now, over_note, over_notes, open_notes, opened_notes, channel_closed, epoch_over, is_ended, unequal, are_unequal, changed, request_handled, reply_handled, code_handled, is_request, is_code, kind_got, kind_refused, refused, well_handled, handled, has_argument, handled_next, settle, settled as all_settled, joined_notes, connection_noted}
+use Rattle.xp_promises.proofs.Steps.{AreSilent, silent_hears}
 use Rattle.xp_promises.proofs.Shakes.{down_silent}
-use Rattle.xp_promises.proofs.Own.{or_true, no_reason}
-use Rattle.xp_records.proofs.Flow.{Joint, begun_by, Flow, FlowAt, RegisteredAt, told_in, over_in, acks_in, IsExplained, AreExplained, plain_explained, Stays, Closes, Sends, Tells, calm_tells, Kept, kept_then, face, Face, ArePlain, calm}
+use Rattle.xp_promises.proofs.Own.{or_true}
+use Rattle.xp_records.proofs.Flow.{Joint, FlowAt, told_in, over_in, acks_in, AreExplained, Tells, calm_tells, Kept, kept_then, ArePlain, calm}
 
 -- an end whose close reply was sent has a reason
 pub replied_reason : (e : End) → FlowAt e → e.shake.sent.close_reply ≡ true → is_some e.shake.reason ≡ true

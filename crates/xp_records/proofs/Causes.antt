@@ -1,16 +1,15 @@
 -- The causes of a send's answer over its steps, and where a send stands at its end: it goes on and has met no cause yet, or its answer is decided for the first that it met.
-use Rattle.std.proofs.Common.{◌≡◌, ℕ, ◌+◌, ◌-◌, ◌<◌, ◌≤◌, arith, Bool, true, false, not, ◌&&◌, ◌||◌, cond, eqb, ltb, List, [], ◌∷◌, ◌++◌, length, refl, ap, sym, ◌∙◌, subst, Option, Some, None, inl, inr, ◌⊎◌}
+use Rattle.std.proofs.Common.{◌≡◌, ℕ, ◌+◌, ◌-◌, ◌≤◌, arith, Bool, true, false, not, ◌&&◌, ◌||◌, cond, eqb, ltb, List, [], ◌∷◌, ◌++◌, refl, ap, sym, ◌∙◌, Option, Some, None, inl, inr, ◌⊎◌}
 use Rattle.std.specs.Prelude.{is_some}
-use Rattle.std.proofs.lemmas.Bool.{cases_eq, eq-eqb, ne_eqb, eqb-true, ltb-true, and_parts, and_from, cases_Bool}
+use Rattle.std.proofs.lemmas.Bool.{cases_eq, eq-eqb, ne_eqb, ltb-true, cases_Bool}
 use Rattle.std.proofs.lemmas.Bool.Decides.{nat_tests}
-use Rattle.xp_base.specs.declared.step.OpKind.{OpKind}
 use Rattle.xp_base.specs.declared.step.OpKind.TheVariants.{Store}
 use Rattle.xp_base.specs.declared.step.Answer.{Answer}
 use Rattle.xp_base.specs.declared.step.Answer.TheVariants.{Word, Failed}
 use Rattle.xp_base.specs.declared.answer.SendAnswer.{SendAnswer}
 use Rattle.xp_base.specs.declared.answer.SendAnswer.TheVariants.{Ok as SendOk, Disconnecting, NoSlot}
 use Rattle.xp_base.specs.declared.link.LinkState.{LinkState}
-use Rattle.xp_base.specs.declared.link.LinkState.TheVariants.{Connected, Closing, Idle, Opening}
+use Rattle.xp_base.specs.declared.link.LinkState.TheVariants.{Connected, Closing}
 use Rattle.xp_base.specs.declared.reason.Reason.{Reason}
 use Rattle.xp_base.specs.declared.reason.Reason.TheVariants.{BadCounters}
 use Rattle.xp_protocol.specs.Effects.{Sent}
@@ -18,12 +17,12 @@ use Rattle.xp_protocol.specs.declared.rule.Rule.{Rule}
 use Rattle.xp_protocol.specs.declared.rule.Rule.TheVariants.{Link}
 use Rattle.xp_protocol.specs.declared.rule.LinkRule.TheVariants.{Ring}
 use Rattle.xp_protocol.specs.declared.rule.RingRule.TheVariants.{ReadGet, AcceptMessage}
-use Rattle.xp_protocol.specs.Sending.{Sending, Send, may_wait, is_bad_get, is_full, ring_effect, with_remote_get, send_over, get_loaded}
-use Rattle.xp_protocol.specs.State.{End, Contact, state_by, link_of}
-use Rattle.xp_protocol.specs.Linking.{by_send, link_can}
+use Rattle.xp_protocol.specs.Sending.{Sending, Send, may_wait, is_bad_get, is_full, ring_effect, with_remote_get, send_over}
+use Rattle.xp_protocol.specs.State.{End, state_by, link_of}
+use Rattle.xp_protocol.specs.Linking.{by_send}
 use Rattle.xp_protocol.specs.Acts.{first_of}
 use Rattle.xp_records.specs.Answers.{Passed, SendRun, refused_first, full_told, first_full, closed_told, first_closed, accepted_told, last_accepted, first_cause}
-use Rattle.xp_records.proofs.Flow.{Joint, FlowAt, Stays, Closes, Sends, calm_sends, face}
+use Rattle.xp_records.proofs.Flow.{Joint, FlowAt, Stays, Closes, Sends, calm_sends}
 
 -- one step more
 first_of_none : (o : Option SendAnswer) → first_of o None ≡ o

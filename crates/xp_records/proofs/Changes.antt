@@ -1,5 +1,5 @@
 -- What each step and each act keeps at an end: the order of its epoch, and what is noted of the numbers that were asked for.
-use Rattle.std.proofs.Common.{◌≡◌, ℕ, zero, suc, ◌+◌, ◌*◌, ◌<◌, ◌≤◌, arith, Bool, true, false, ◌&&◌, ◌||◌, not, cond, eqb, List, [], ◌∷◌, ◌++◌, map, length, refl, ap, sym, ◌∙◌, subst, Option, Some, None, inl, inr, ◌⊎◌}
+use Rattle.std.proofs.Common.{◌≡◌, ℕ, ◌+◌, ◌*◌, ◌<◌, ◌≤◌, arith, Bool, true, false, ◌&&◌, not, cond, eqb, List, [], ◌∷◌, ◌++◌, length, refl, ap, sym, ◌∙◌, subst, Option, Some, None, inl, inr, ◌⊎◌}
 use Rattle.std.specs.Prelude.{is_some}
 use Rattle.std.proofs.lemmas.Bool.{and_parts}
 use Rattle.std.proofs.lemmas.List.{append-nil}
@@ -9,8 +9,7 @@ use Rattle.xp_base.specs.declared.link.LinkState.{LinkState}
 use Rattle.xp_base.specs.declared.link.LinkState.TheVariants.{Idle, Opening, Connected, Closing}
 use Rattle.xp_base.specs.declared.answer.SendAnswer.{SendAnswer}
 use Rattle.xp_base.specs.declared.answer.SendAnswer.TheVariants.{Ok as SendOk, NoSlot, Disconnecting, NotConnected}
-use Rattle.xp_base.specs.declared.answer.RegisterAnswer.TheVariants.{Ok as RegisterOk, Already}
-use Rattle.xp_base.specs.declared.answer.UnregisterAnswer.TheVariants.{Ok as UnregisterOk, NotRegistered}
+use Rattle.xp_base.specs.declared.answer.UnregisterAnswer.TheVariants.{Ok as UnregisterOk}
 use Rattle.xp_base.specs.declared.answer.ReleaseAnswer.{ReleaseAnswer}
 use Rattle.xp_base.specs.declared.answer.DrainAnswer.{DrainAnswer}
 use Rattle.xp_base.specs.declared.answer.TakeAnswer.{TakeAnswer}
@@ -35,20 +34,20 @@ use Rattle.xp_protocol.specs.declared.rule.LinkRule.TheVariants.{Ring, Pull, Ack
 use Rattle.xp_protocol.specs.declared.rule.RingRule.TheVariants.{ReadGet, WriteEntryWord, AcceptMessage}
 use Rattle.xp_protocol.specs.declared.rule.PullRule.TheVariants.{ReadCounters, ReadEntry}
 use Rattle.xp_protocol.specs.Records.{Recorded}
-use Rattle.xp_protocol.specs.Effects.{Effect, just, and_then, SendNote, Accepted, Sent, PullNote, Heard, TakeRefused, Note, BySend, ByPull, Acked, Released, Drained, Registered, Withdrawn, with_notes}
-use Rattle.xp_protocol.specs.Sending.{Sending, Send as Sendable, new_sending, is_bad_get, is_full, get_loaded, ring_effect, with_remote_get, send_over, wants_notice, payload_of, link_refusal}
+use Rattle.xp_protocol.specs.Effects.{Effect, just, and_then, SendNote, Accepted, Sent, PullNote, Heard, Note, Acked, Withdrawn, with_notes}
+use Rattle.xp_protocol.specs.Sending.{Sending, Send as Sendable, new_sending, is_bad_get, is_full, ring_effect, with_remote_get, send_over, wants_notice, payload_of, link_refusal}
 use Rattle.xp_protocol.specs.Pulling.{Pulling, new_pulling, counters_pulled, entry_pulled, words_each, run_now, run_fault, run_copied, is_bad_put, take_due, shown_empty, take_refusal, pull_failed}
 use Rattle.xp_protocol.specs.Releasing.{Releasing, message_released, release_refusal}
-use Rattle.xp_protocol.specs.State.{End, Size, Contact, is_begun, is_connected, may_copy, link_of, state_by, both_complete, any_kind, largest_size}
-use Rattle.xp_protocol.specs.Linking.{hears, by_send, by_pull, sender_counters, release_notes, acknowledged, close_now, link_closed, link_down, over_notes, link_finished, link_joined, booted_end, open_notes, opened_notes, channel_closed, changed, settled as all_settled, with_taken, flags_got, end_sent, with_sent, control_sent, owed, flag_sent, with_argument, argument_stored, link_can, link_effect, copy_failed, entries_in, limit_in, down_notes, down_end}
+use Rattle.xp_protocol.specs.State.{End, Size, Contact, is_begun, is_connected, may_copy, link_of, state_by, both_complete, largest_size}
+use Rattle.xp_protocol.specs.Linking.{hears, by_send, by_pull, sender_counters, release_notes, acknowledged, close_now, link_down, link_finished, link_joined, booted_end, channel_closed, changed, settled as all_settled, with_taken, flags_got, end_sent, with_sent, control_sent, owed, flag_sent, with_argument, argument_stored, link_can, link_effect, copy_failed, entries_in, limit_in}
 use Rattle.xp_protocol.specs.Rules.{link_answered, end_failed, copy_error}
-use Rattle.xp_protocol.specs.Acts.{say, send_begun, take_begun, release_begun, release_held, drain_begun, drain_refusal, register_begun, unregister_begun, withdrawn, refused_send, first_of, too_long, limit_of, end_begun, end_answered, taken_by, take_found, take_answered}
+use Rattle.xp_protocol.specs.Acts.{say, send_begun, take_begun, release_begun, release_held, drain_begun, drain_refusal, register_begun, unregister_begun, refused_send, first_of, too_long, limit_of, end_begun, end_answered, taken_by, take_found, take_answered}
 use Rattle.xp_protocol.specs.Promised.{size_sent}
-use Rattle.xp_promises.proofs.Own.{or_true, no_reason, sent_begun}
+use Rattle.xp_promises.proofs.Own.{sent_begun}
 use Rattle.xp_promises.proofs.Steps.{AreSilent}
-use Rattle.xp_records.proofs.Commands.{begins_in, begins_more, silent_begins, Off, Still, still_off, begun_still, answered_still, down_off, sends_still}
-use Rattle.xp_records.proofs.Flow.{Joint, begun_by, Flow, FlowAt, RegisteredAt, told_in, over_in, acks_in, AreExplained, plain_explained, Stays, Closes, Idles, Sends, sends_then, Tells, tells_then, calm_tells, Kept, face, Face, ArePlain, calm, calm_sends}
-use Rattle.xp_records.proofs.Cascades.{down_clear, joint_at, joint_of, joint_sent, joint_got, opened_plain, Keeps, then_keeps, either, stays, closes, closes_now, over_tells, changes, settles_all}
+use Rattle.xp_records.proofs.Commands.{Off, still_off, begun_still, answered_still, down_off, sends_still}
+use Rattle.xp_records.proofs.Flow.{Joint, begun_by, Flow, FlowAt, RegisteredAt, told_in, over_in, acks_in, AreExplained, plain_explained, Sends, sends_then, Tells, tells_then, calm_tells, Kept, face, ArePlain, calm, calm_sends}
+use Rattle.xp_records.proofs.Cascades.{down_clear, joint_at, joint_sent, joint_got, opened_plain, Keeps, then_keeps, either, stays, closes, closes_now, over_tells, changes, settles_all}
 
 -- no get is stored, or one that is above the one before
 pub record Acks (e : End) (ns : List Note) : Type 0 where

@@ -1,25 +1,18 @@
 -- An end by itself, whatever changes it: in which order the flags of its epoch are sent and got, what stands only after them, what is noted, and what becomes of the send in progress.
-use Rattle.std.proofs.Common.{◌≡◌, ℕ, zero, suc, ◌+◌, Bool, true, false, ◌&&◌, ◌||◌, not, cond, eqb, List, [], ◌∷◌, ◌++◌, map, length, refl, ap, sym, ◌∙◌, subst, append_assoc, Option, Some, None, inl, inr, ◌⊎◌}
+use Rattle.std.proofs.Common.{◌≡◌, ℕ, Bool, true, false, ◌||◌, List, [], ◌∷◌, ◌++◌, refl, ap, sym, ◌∙◌, subst, append_assoc, Option, Some, None, inl, inr, ◌⊎◌}
 use Rattle.std.specs.Prelude.{is_some}
-use Rattle.std.proofs.lemmas.Bool.{and_parts, cases_Bool}
 use Rattle.std.proofs.lemmas.List.{append-nil}
-use Rattle.xp_base.specs.declared.link.Kind.{Kind}
-use Rattle.xp_base.specs.declared.link.Kind.TheVariants.{CloseRequest, CloseReply, OpenRequest, OpenReply, OpenComplete, MsgRequest}
 use Rattle.xp_base.specs.declared.answer.SendAnswer.{SendAnswer}
 use Rattle.xp_base.specs.declared.answer.SendAnswer.TheVariants.{Disconnecting}
 use Rattle.xp_base.specs.declared.reason.Reason.{Reason}
-use Rattle.xp_base.specs.declared.reason.Reason.TheVariants.{UnequalSizes, BadArgs, PartnerClosed}
-use Rattle.xp_base.specs.Kinds.{Kinds, without, next_of}
+use Rattle.xp_base.specs.Kinds.{Kinds}
 use Rattle.xp_protocol.specs.Records.{Recorded}
-use Rattle.xp_protocol.specs.Effects.{Effect, just, and_then, Accepted, Sent, Heard, TakeRefused, Note, BySend, ByPull, Began, Joined, Taken, Freed, Acked, Told, ToldOver, Over, Released, Drained, Registered, Withdrawn, with_note, with_notes}
-use Rattle.xp_protocol.specs.Sending.{Sending, Send, new_sending, send_over, closed_send}
-use Rattle.xp_protocol.specs.Pulling.{Pulling, new_pulling, pull_closed, closed_take}
-use Rattle.xp_protocol.specs.State.{End, Shake, Size, Replied, Contact, Decided, nothing_decided, is_begun, is_connected, any_kind, size_in}
-use Rattle.xp_protocol.specs.Linking.{hear, hears, down_notes, down_end, closed_release, closed_drain, close_now, link_closed, over_note, over_notes, open_notes, opened_notes, channel_closed, epoch_over, is_ended, unequal, are_unequal, changed, request_handled, reply_handled, code_handled, is_request, is_code, kind_got, kind_refused, refused, well_handled, handled, has_argument, handled_next, settle, settled as all_settled, joined_notes, connection_noted, with_taken, flags_got, kept_for}
+use Rattle.xp_protocol.specs.Effects.{Effect, and_then, Accepted, Sent, Note, BySend, ByPull, Began, Joined, Taken, Freed, Acked, Told, ToldOver, Over, Released, Drained, Registered, Withdrawn, with_note, with_notes}
+use Rattle.xp_protocol.specs.Sending.{Sending, Send, new_sending}
+use Rattle.xp_protocol.specs.Pulling.{Pulling, new_pulling}
+use Rattle.xp_protocol.specs.State.{End, Contact, any_kind}
 use Rattle.xp_protocol.specs.Promised.{size_sent}
 use Rattle.xp_meetings.proofs.Parts.{notes_more}
-use Rattle.xp_promises.proofs.Steps.{AreSilent, silent_notes, silent_hears, connected}
-use Rattle.xp_promises.proofs.Shakes.{down_silent}
 
 -- connected, in its parts
 abbrev pub Joint : Option Contact → Option Reason → Kinds → Kinds → Type 0

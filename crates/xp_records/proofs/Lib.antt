@@ -11,3 +11,4 @@ mod Acknowledged
 mod Causes
 mod Sends
 mod Answered
+mod Examples

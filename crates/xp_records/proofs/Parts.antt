@@ -1,27 +1,17 @@
 -- All ends of a partition after each rule, each act and each moment: the order of each, and that ends without a contact are in none and, as long as their memory isn't being left, are fresh.
-use Rattle.std.proofs.Common.{◌≡◌, ℕ, ◌-◌, ◌<◌, ◌≤◌, Bool, true, false, ◌&&◌, ◌||◌, not, replicate, cond, eqb, List, [], ◌∷◌, ◌++◌, length, refl, ap, sym, ◌∙◌, subst, arith, inl, inr, ◌⊎◌, Option, Some, None}
+use Rattle.std.proofs.Common.{◌≡◌, ℕ, ◌-◌, ◌<◌, ◌≤◌, Bool, true, false, ◌&&◌, not, replicate, cond, eqb, List, [], ◌∷◌, ◌++◌, length, refl, ap, sym, ◌∙◌, subst, arith, inl, inr, ◌⊎◌, Option, Some, None}
 use Rattle.std.specs.Prelude.{slice_get, is_some}
 use Rattle.std.proofs.lemmas.Bool.{and_parts, cases_lt}
 use Rattle.std.proofs.lemmas.List.{get_or_past, get_or-replicate, length-replicate}
 use Rattle.xp_base.specs.declared.reason.Reason.{Reason}
-use Rattle.xp_base.specs.declared.reason.Reason.TheVariants.{OtherGoingDown, Unregistered}
+use Rattle.xp_base.specs.declared.reason.Reason.TheVariants.{OtherGoingDown}
 use Rattle.xp_base.specs.declared.step.Answer.{Answer}
 use Rattle.xp_base.specs.declared.step.Answer.TheVariants.{Word, Failed}
 use Rattle.xp_base.specs.declared.step.CopyMark.{CopyMark}
-use Rattle.xp_base.specs.declared.answer.SendAnswer.{SendAnswer}
-use Rattle.xp_base.specs.declared.answer.ReleaseAnswer.{ReleaseAnswer}
-use Rattle.xp_base.specs.declared.answer.DrainAnswer.{DrainAnswer}
-use Rattle.xp_base.specs.declared.answer.TakeAnswer.{TakeAnswer}
-use Rattle.xp_base.specs.declared.answer.TakeAnswer.TheVariants.{Taken as TakenAnswer, Empty}
-use Rattle.xp_base.specs.declared.answer.UnregisterAnswer.TheVariants.{Ok as UnregisterOk}
 use Rattle.xp_base.specs.Kinds.{kinds_in}
 use Rattle.xp_base.specs.History.{Act, Begun, Answered, Noticed, NoticeKind, Delivered, Ended}
 use Rattle.xp_script.specs.declared.command.Command.{Command}
-use Rattle.xp_script.specs.declared.command.Command.TheVariants.{Send, Take, Release, Drain, Register, Unregister}
-use Rattle.xp_script.specs.declared.command.Command.TheVariants as commands
-use Rattle.xp_protocol.specs.declared.refusal.TakeRefusal.{TakeRefusal}
 use Rattle.xp_protocol.specs.declared.contact.PartnerState.TheVariants.{Active}
-use Rattle.xp_protocol.specs.declared.rule.LinkRule.{LinkRule}
 use Rattle.xp_protocol.specs.declared.rule.PeerRule.{PeerRule}
 use Rattle.xp_protocol.specs.declared.rule.PeerRule.TheVariants.{AskActivation, TakeFlags, CloseArea, ZeroMagic, ClearOldBit, Prepare, OpenArea, SetEngagementBit, ReadRecord, StoreEcho, StoreSecond, ClearEngagementBit, LookAtPage, ClearDeactivationBit, TellPartner}
 use Rattle.xp_protocol.specs.declared.rule.OwnRule.TheVariants.{ReadEngaged, TakeDeactivation, ReadStamp, ZeroMask, ZeroOffline, WriteStamp, StoreMask, TakeActivation}
@@ -30,26 +20,22 @@ use Rattle.xp_protocol.specs.declared.rule.Rule.TheVariants.{Link, Peer as ForPe
 use Rattle.xp_script.specs.declared.part.Link.{Link as SetupLink}
 use Rattle.xp_script.specs.declared.part.ScenarioPart.{ScenarioPart}
 use Rattle.xp_protocol.specs.Parts.{script_in, IsLawfulPart}
-use Rattle.xp_protocol.specs.Effects.{Effect, just, and_then, Note, Withdrawn}
-use Rattle.xp_protocol.specs.Releasing.{message_released, release_refusal}
-use Rattle.xp_protocol.specs.Pulling.{take_refusal, take_due}
-use Rattle.xp_protocol.specs.State.{State, End, Peer, Contact, Size, Engage, Area, Reading, Old, Off, Ready, Leaving, cold_peer, idle_end, warm_end, warm_peer, base_peer, base_engage, opened_state, opened_peers, first_peers, is_begun, is_connected, link_of, end_of, peer_of, peer_at, link_at, set_link, each}
-use Rattle.xp_protocol.specs.Linking.{link_down, link_finished, link_joined, flags_got, booted_end, close_now, channel_closed}
+use Rattle.xp_protocol.specs.Effects.{Effect, Note}
+use Rattle.xp_protocol.specs.State.{State, End, Peer, Contact, Engage, Area, Reading, Old, Off, Ready, Leaving, cold_peer, idle_end, warm_end, warm_peer, base_peer, opened_state, opened_peers, first_peers, is_begun, end_of, peer_of, peer_at, link_at, set_link, each}
+use Rattle.xp_protocol.specs.Linking.{link_down, link_finished, link_joined, flags_got, booted_end}
 use Rattle.xp_protocol.specs.Peering.{Here, same_peer, is_bad_flags, is_ready, area_left_for, contact_made, contact_of, try_contact, record_read, peer_can, peer_effect, area_off, peer_read, deactivation_heard, is_left, is_flagged, is_magic, is_wrong, has_shown, with_reason, peer_failed, booted_peer}
-use Rattle.xp_protocol.specs.Rules.{Can, here_of, peer_numbered, numbered, mark_of, place_for, after_answer, noted_rule, link_answered}
-use Rattle.xp_protocol.specs.Acts.{Aim, MayAct, after_act, command_begun, aimed, aim_of, aim_by, EndName, named_end, upcoming, current, end_begun, end_answered, with_aim, noted_aim, notice_due, end_noticed, without_first, send_begun, take_begun, release_begun, release_held, drain_begun, drain_refusal, register_begun, unregister_begun, withdrawn, refused_send, taken_by, take_found, take_answered, say, unwanted, wanted_again}
+use Rattle.xp_protocol.specs.Rules.{Can, here_of, peer_numbered, mark_of, place_for, after_answer, noted_rule, link_answered}
+use Rattle.xp_protocol.specs.Acts.{Aim, MayAct, after_act, command_begun, aimed, aim_of, aim_by, EndName, named_end, upcoming, current, end_begun, end_answered, with_aim, noted_aim, end_noticed, without_first}
 use Rattle.xp_protocol.specs.declared.rule.AreaWord.{AreaWord}
 use Rattle.xp_protocol.specs.declared.rule.AreaWord.TheVariants.{SessionWord, EchoWord, PlaceWord, ArgsWord, FlagWord, CounterWord}
-use Rattle.xp_protocol.specs.Runs.{turned, moment_by, restart_comes, stop_comes, is_over, moment, start}
+use Rattle.xp_protocol.specs.Runs.{turned, moment_by, restart_comes, stop_comes, is_over, moment}
 use Rattle.xp_protocol.proofs.Lawful.{lawful_command}
 use Rattle.xp_protocol.proofs.Named.{IsNamed, named_low}
 use Rattle.xp_protocol.proofs.Slots.{at_each, at_peer, at_slot}
 use Rattle.xp_protocol.proofs.Frames.{AreAll, links_framed, peers_framed, link_frame, peer_frame, aim_frame, rule_all, act_all, cold_all, wanted_at, idle_at}
 use Rattle.xp_protocol.proofs.Opened.{start_all, opened_fact}
-use Rattle.xp_meetings.proofs.Parts.{Part, part_act, part_ruled, part_moment, part_opened}
 use Rattle.xp_records.proofs.Flow.{FlowAt, RegisteredAt, Sends, calm_sends}
-use Rattle.xp_records.proofs.Cascades.{down_clear}
-use Rattle.xp_records.proofs.Changes.{Orders, Order, order_same, order_of, order_by, linked_order, takes, takes_order, goes_down, down_order, finishes, finished_order, joins, joined_order, boots, begun_order, answered_order}
+use Rattle.xp_records.proofs.Changes.{Orders, Order, order_same, linked_order, takes, takes_order, goes_down, down_order, finishes, finished_order, joins, joined_order, boots, begun_order, answered_order}
 use Rattle.xp_records.proofs.Commands.{Still, begun_still, answered_still, noticed_still}
 
 abbrev is_leaving : Area → Bool

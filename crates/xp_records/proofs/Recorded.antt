@@ -1,10 +1,10 @@
 -- The numbers that the records of an end have as told are the notices that were given at it, turn by turn.
-use Rattle.std.proofs.Common.{◌≡◌, ℕ, ◌+◌, ◌<◌, Bool, true, false, cond, List, [], ◌∷◌, ◌++◌, refl, ap, sym, ◌∙◌, subst, arith, append_assoc, zero, suc, Option, Some, None, inl, inr, ◌⊎◌}
-use Rattle.std.specs.Prelude.{is_some, slice_get}
+use Rattle.std.proofs.Common.{◌≡◌, ℕ, ◌+◌, ◌<◌, Bool, true, false, cond, List, [], ◌∷◌, ◌++◌, refl, ap, sym, ◌∙◌, subst, append_assoc, zero, suc, Option, Some, None, inl}
+use Rattle.std.specs.Prelude.{slice_get}
 use Rattle.std.proofs.lemmas.Bool.{eq-eqb}
 use Rattle.std.proofs.lemmas.List.{append-nil}
 use Rattle.xp_base.specs.Memory.{Memory}
-use Rattle.xp_base.specs.History.{Act, NoticeKind, Delivered, Ended, Marked, Turn, Event, Poked, Turned, turns_of}
+use Rattle.xp_base.specs.History.{Act, NoticeKind, Delivered, Ended, Marked, Turn, Event, Turned, turns_of}
 use Rattle.xp_base.proofs.HistoryLemmas.{turns_of-append}
 use Rattle.xp_script.specs.declared.part.Link.{Link}
 use Rattle.xp_script.specs.declared.part.ScenarioPart.{ScenarioPart}
@@ -15,8 +15,8 @@ use Rattle.xp_protocol.specs.Parts.{IsLawfulPart}
 use Rattle.xp_protocol.specs.Records.{Recorded, opened_record}
 use Rattle.xp_protocol.specs.Logged.{is_at, opened_records}
 use Rattle.xp_protocol.specs.State.{State, End, end_of}
-use Rattle.xp_protocol.specs.Acts.{MayAct, MayActs, after_acts, first_number, notice_due}
-use Rattle.xp_protocol.specs.Runs.{MayMake, MayStep, May, RunsFrom, start, acted, after_step, after_turn, state_after}
+use Rattle.xp_protocol.specs.Acts.{MayActs, after_acts, first_number, notice_due}
+use Rattle.xp_protocol.specs.Runs.{MayMake, May, RunsFrom, start, acted, after_step, after_turn}
 use Rattle.xp_protocol.specs.Reached.{ReachedWords, state_at}
 use Rattle.xp_protocol.specs.Promised.{IsLine, IsRecord, records_of}
 use Rattle.xp_protocol.proofs.LawfulParts.{lawful_part}
@@ -24,7 +24,7 @@ use Rattle.xp_meetings.proofs.Parts.{Part, part_opened, part_start, part_act, pa
 use Rattle.xp_promises.proofs.Owns.{Owned, owned_act, owned_rule, owned_moment, owned_first}
 use Rattle.xp_promises.proofs.NoticesKept.{first_due, turn_due, turns_due}
 use Rattle.xp_promises.proofs.Before.{split}
-use Rattle.xp_records.specs.Noticed.{notice_in, notices_in, notices_turn, notices_of, told_as, all_told, NoticesRecorded}
+use Rattle.xp_records.specs.Noticed.{notice_in, notices_in, notices_turn, notices_of, all_told, NoticesRecorded}
 use Rattle.xp_records.proofs.Flow.{IsExplained, AreExplained}
 use Rattle.xp_records.proofs.Parts.{Ordered, ordered_act, ordered_rule, ordered_moment}
 use Rattle.xp_records.proofs.Anew.{ordered_start}

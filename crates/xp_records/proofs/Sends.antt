@@ -1,5 +1,5 @@
 -- Each send of a partition is answered for the first cause that it met, whatever its turns do.
-use Rattle.std.proofs.Common.{◌≡◌, ℕ, zero, suc, ◌+◌, ◌-◌, ◌<◌, arith, Bool, true, false, not, ◌&&◌, ◌||◌, cond, eqb, ltb, List, [], ◌∷◌, ◌++◌, length, get_or-set_same, refl, ap, sym, ◌∙◌, subst, Option, Some, None, inl, inr, ◌⊎◌}
+use Rattle.std.proofs.Common.{◌≡◌, ℕ, zero, suc, ◌+◌, ◌-◌, ◌<◌, arith, Bool, true, false, not, ◌&&◌, cond, eqb, ltb, List, [], ◌∷◌, length, get_or-set_same, refl, ap, sym, ◌∙◌, subst, Option, Some, None, inl, inr, ◌⊎◌}
 use Rattle.std.specs.Prelude.{is_some, slice_get, IsSome}
 use Rattle.std.proofs.lemmas.Bool.{cases_eq, eq-eqb, ne_eqb, and_parts, and_from}
 use Rattle.xp_base.specs.declared.step.Op.{Op}
@@ -26,21 +26,19 @@ use Rattle.xp_protocol.specs.declared.rule.Rule.TheVariants.{Link, Peer as ForPe
 use Rattle.xp_protocol.specs.Parts.{script_in, IsLawfulPart}
 use Rattle.xp_protocol.specs.Effects.{Effect, Note}
 use Rattle.xp_protocol.specs.Sending.{Send as Sendable, ring_effect, link_refusal, may_wait}
-use Rattle.xp_protocol.specs.State.{State, End, Peer, Size, Old, cold_peer, idle_end, peer_at, link_at, end_at, set_link, set_end, state_by, both_complete, is_connected, link_of, end_of}
+use Rattle.xp_protocol.specs.State.{State, End, Peer, Size, Old, cold_peer, idle_end, peer_at, link_at, end_at, set_link, set_end, state_by, both_complete, link_of, end_of}
 use Rattle.xp_protocol.specs.Linking.{by_send, link_can, acknowledged}
 use Rattle.xp_protocol.specs.Rules.{Can, mark_of, place_for, link_answered, after_answer, op_of}
-use Rattle.xp_protocol.specs.Decode.{rule_of}
-use Rattle.xp_protocol.specs.Acts.{Aim, EndName, MayAct, first_of, too_long, limit_of, limit_by, registered_limit, refused_send, send_begun, end_begun, end_answered, named_end, upcoming, current, due, due_to, send_logged, aim_of, aim_by, aimed, with_aim, after_act, command_begun, end_noticed, is_accepted, must_answer}
-use Rattle.xp_protocol.specs.Runs.{MayStep, MayMake, after_ruled, after_step}
+use Rattle.xp_protocol.specs.Acts.{Aim, EndName, first_of, too_long, limit_of, limit_by, registered_limit, refused_send, send_begun, end_begun, end_answered, named_end, upcoming, current, due, due_to, send_logged, aim_of, aim_by, aimed, with_aim, after_act, command_begun, end_noticed, is_accepted, must_answer}
+use Rattle.xp_protocol.specs.Runs.{MayStep, after_ruled, after_step}
 use Rattle.xp_protocol.proofs.Lawful.{lawful_command}
 use Rattle.xp_protocol.proofs.Named.{IsNamed, named_low}
-use Rattle.xp_protocol.proofs.Slots.{at_end}
 use Rattle.xp_protocol.proofs.Frames.{AreAll, link_frame, aim_frame, wanted_at}
-use Rattle.xp_records.specs.Answers.{Passed, SendRun, begun_send, answered_send, sends_act, is_send, is_sending, passed, stepped, sends_step, limit_at, refused_first, full_told, first_full, first_closed, first_cause}
-use Rattle.xp_records.proofs.Flow.{Joint, FlowAt, RegisteredAt, Stays, Closes, Sends, calm_sends, face}
-use Rattle.xp_records.proofs.Changes.{IsCalm, IsCalmly, linked_went, stored_face, joint_linked, IsNoSend, begin_kept, answer_kept}
-use Rattle.xp_records.proofs.Parts.{Ordered, IsWide, rule_sends, rule_orders, ordered_rule}
-use Rattle.xp_records.proofs.Causes.{with_step, full_now, full_by, IsUnfull, Firm, firm_cause, Going, Done, Stage, stage_moves, stage_get, stage_put}
+use Rattle.xp_records.specs.Answers.{Passed, SendRun, begun_send, answered_send, is_send, is_sending, passed, stepped, sends_step, limit_at, refused_first, full_told, first_cause}
+use Rattle.xp_records.proofs.Flow.{FlowAt, RegisteredAt, Sends, calm_sends, face}
+use Rattle.xp_records.proofs.Changes.{IsCalmly, linked_went, stored_face, IsNoSend, begin_kept, answer_kept}
+use Rattle.xp_records.proofs.Parts.{Ordered, rule_sends, rule_orders}
+use Rattle.xp_records.proofs.Causes.{with_step, full_by, Firm, firm_cause, Stage, stage_moves, stage_get, stage_put}
 
 -- a send is refused at its beginning as its causes say
 closing_limit : (z : Option Size) (r : Reason) (n : ℕ) → limit_at z (Closing r) n ≡ registered_limit z

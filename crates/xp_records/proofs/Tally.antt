@@ -1,10 +1,9 @@
 -- The notices that are given at one end, and the numbers that its records have as told: the same, but for those whose connection ended in this turn and which are still to be told.
-use Rattle.std.proofs.Common.{◌≡◌, ℕ, ◌+◌, ◌<◌, Bool, true, false, cond, eqb, List, [], ◌∷◌, ◌++◌, length, ltb, refl, ap, sym, ◌∙◌, subst, arith, append_assoc, set, get_or-set_same, Option, Some, None, inl, inr, ◌⊎◌}
-use Rattle.std.specs.Prelude.{is_some}
+use Rattle.std.proofs.Common.{◌≡◌, ℕ, ◌<◌, Bool, true, false, cond, eqb, List, [], ◌∷◌, ◌++◌, ltb, refl, ap, sym, ◌∙◌, subst, arith, append_assoc, get_or-set_same, Some, None, inl, inr, ◌⊎◌}
 use Rattle.std.proofs.lemmas.Bool.{cases_eq, eq-eqb, ne_eqb}
 use Rattle.std.proofs.lemmas.List.{append-nil}
 use Rattle.xp_base.specs.declared.step.Answer.{Answer}
-use Rattle.xp_base.specs.History.{Act, Begun, Answered, Noticed, NoticeKind, Delivered, Ended, Marked, Turn}
+use Rattle.xp_base.specs.History.{Act, Begun, Answered, Noticed, NoticeKind, Delivered, Ended}
 use Rattle.xp_protocol.specs.declared.rule.Rule.{Rule}
 use Rattle.xp_script.specs.declared.part.ScenarioPart.{ScenarioPart}
 use Rattle.xp_protocol.specs.Parts.{IsLawfulPart}
@@ -12,17 +11,15 @@ use Rattle.xp_protocol.specs.Records.{Recorded}
 use Rattle.xp_protocol.specs.Effects.{Accepted, Sent, Note, BySend, ByPull, Began, Joined, Taken, Freed, Acked, Told, ToldOver, Over, Released, Drained, Registered, Withdrawn, with_note, with_notes}
 use Rattle.xp_protocol.specs.State.{State, End, Peer, Old, cold_peer, idle_end, is_begun, end_of, end_at, link_at, peer_at, set_end, set_link}
 use Rattle.xp_protocol.specs.Rules.{Can, after_answer, noted_rule}
-use Rattle.xp_protocol.specs.Acts.{MayAct, MayActs, after_act, aimed, noted_aim, notice_due, below, first_number, without_first, end_noticed}
-use Rattle.xp_protocol.specs.Runs.{MayStep, MayMake}
+use Rattle.xp_protocol.specs.Acts.{MayAct, after_act, aimed, noted_aim, notice_due, below, first_number, without_first, end_noticed}
 use Rattle.xp_protocol.proofs.Slots.{at_end}
-use Rattle.xp_protocol.proofs.Frames.{AreAll}
-use Rattle.xp_meetings.proofs.Parts.{Part, part_act, part_acts, part_ruled, part_step, step_same, acts_state}
+use Rattle.xp_meetings.proofs.Parts.{Part, part_act, part_ruled}
 use Rattle.xp_promises.proofs.Own.{LiveIn, facts}
-use Rattle.xp_promises.proofs.Owns.{LocalAt, Owned, owned_act, owned_rule}
-use Rattle.xp_records.specs.Noticed.{if_kind, notice_in, notices_in, told_as, all_told}
-use Rattle.xp_records.proofs.Flow.{FlowAt, told_by, told_in, over_by, over_in, AreExplained, plain_explained}
+use Rattle.xp_promises.proofs.Owns.{LocalAt, Owned}
+use Rattle.xp_records.specs.Noticed.{if_kind, notice_in, all_told}
+use Rattle.xp_records.proofs.Flow.{told_by, told_in, over_by, over_in, AreExplained, plain_explained}
 use Rattle.xp_records.proofs.Changes.{Orders}
-use Rattle.xp_records.proofs.Parts.{Ordered, IsCommand, rule_orders, act_orders, ordered_act, ordered_rule}
+use Rattle.xp_records.proofs.Parts.{Ordered, IsCommand, rule_orders, act_orders}
 
 -- the numbers that notes tell, by kind
 abbrev pub said_by : NoticeKind → Note → List ℕ

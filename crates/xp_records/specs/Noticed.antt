@@ -1,6 +1,6 @@
 -- The notices that a partition gives at an end, and what the records of the end's connections have
 -- of them.
-use Rattle.std.specs.Prelude.{◌≡◌, ℕ, ◌<◌, Bool, true, if◌then◌else◌, is_some, nat_eq, List, [], ◌∷◌, ◌++◌, ◌⊎◌}
+use Rattle.std.specs.Prelude.{◌≡◌, ℕ, ◌<◌, true, if◌then◌else◌, is_some, nat_eq, List, [], ◌∷◌, ◌++◌, ◌⊎◌}
 use Rattle.std.specs.List.{Contains}
 use Rattle.xp_base.specs.History.{Act, Begun, Answered, Noticed, NoticeKind, Delivered, Ended, Turn, Event, Turned, turns_of}
 use Rattle.xp_script.specs.declared.scenario.Scenario.{Scenario}
