@@ -11,3 +11,4 @@ pub mod SessionsKept
 pub mod FlagsKept
 pub mod Counted
 pub mod LinesKept
+mod FiveConnections

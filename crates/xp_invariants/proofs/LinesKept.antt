@@ -25,7 +25,7 @@ use Rattle.xp_protocol.specs.Records.{Recorded}
 use Rattle.xp_protocol.specs.Sending.{Sending}
 use Rattle.xp_protocol.specs.Rules.{op_of, row_of, owner}
 use Rattle.xp_protocol.specs.Runs.{MayMake}
-use Rattle.xp_protocol.specs.State.{State, End, end_of, peer_of, may_copy, is_begun}
+use Rattle.xp_protocol.specs.State.{State, Contact, End, end_of, peer_of, may_copy, is_begun}
 use Rattle.xp_protocol.proofs.Undo.{within, owner_low}
 use Rattle.xp_meetings.proofs.Both.{Side}
 use Rattle.xp_meetings.proofs.Meets.{left, right}
@@ -274,6 +274,18 @@ module _ (s : Scenario) (law : IsLawful s) (h : List Event) (m : Memory) (given 
             let same : z ≡ r = newest_is (z ∷ more) z r more refl t in
             (name_here (at room_in.own room_in.theirs e.epoch) z more has ∙ same, ap name_of (sym same) ∙ has)
 
+      recorded_now : (k : Contact) → e.shake.meet ≡ Some k → is_begun e ≡ true → (r : Recorded) × (slice_get rs 0 ≡ Some r) × (name_of r ≡ record { epoch = e.epoch; own = k.own; theirs = k.theirs })
+      recorded_now k on begun = by rs (line_in.rest.mine.first begun) where
+        both : Some k ≡ Some (record { own = room_in.own; theirs = room_in.theirs })
+        both = sym on ∙ line_in.meet
+
+        one : (u v : Contact) → Some u ≡ Some v → u ≡ v
+        one u v z = cc
+
+        by : (zs : List Recorded) → HasFirst (at room_in.own room_in.theirs e.epoch) zs → (r : Recorded) × (slice_get zs 0 ≡ Some r) × (name_of r ≡ record { epoch = e.epoch; own = k.own; theirs = k.theirs })
+        by [] has = absurd has
+        by (z ∷ more) has = (z, refl, has ∙ ap (λ (u : Contact). at u.own u.theirs e.epoch) (sym (one k _ both)))
+
       sent_now : (r : Recorded) → e.shake.sent.open_complete ≡ true → slice_get rs 0 ≡ Some r → IsSent e.sides.send r (put_word s h p q c) (acked_of (first_named r ss))
       sent_now r on t =
           let k = sending on in
@@ -345,6 +357,8 @@ module _ (s : Scenario) (law : IsLawful s) (h : List Event) (m : Memory) (given 
 
 pub lines_kept : (s : Scenario) → IsLawful s → (h : List Event) (m : Memory) → ReachedWords s h m → Lines s h
 lines_kept s law h m r = record {
+  recorded = λ p q c k l. (let P : State → List Recorded → List Recorded → Type 0 = λ a rs ss. (end_of a q c).shake.meet ≡ Some k → is_begun (end_of a q c) ≡ true → (r : Recorded) × (slice_get rs 0 ≡ Some r) × (name_of r ≡ record { epoch = (end_of a q c).epoch; own = k.own; theirs = k.theirs }) in
+      all p q c P (λ on begun. recorded_now s law h m r p q c l (ap (λ (o : Option Contact). is_some o) on) k on begun));
   received = λ p q c l. (let P : State → List Recorded → List Recorded → Type 0 = λ a rs ss. may_copy (end_of a q c) ≡ true → (r : Recorded) → slice_get rs 0 ≡ Some r → IsReceived (end_of a q c).sides.pull r (put_word s h q p c) (accepted_of (first_named r ss)) in
       all p q c P (λ may z t. received_now s law h m r p q c l may z t));
   got = λ p q c l. (let P : State → List Recorded → List Recorded → Type 0 = λ a rs ss. may_copy (end_of a q c) ≡ true → (r : Recorded) → slice_get rs 0 ≡ Some r → get_word s h p q c ≡ r.acked in

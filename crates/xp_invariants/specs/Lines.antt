@@ -11,11 +11,11 @@ use Rattle.xp_protocol.specs.declared.rule.PeerRule.TheVariants.{Prepare}
 use Rattle.xp_protocol.specs.declared.rule.RingRule.TheVariants.{AcceptMessage}
 use Rattle.xp_protocol.specs.declared.rule.Rule.{Rule}
 use Rattle.xp_protocol.specs.declared.rule.Rule.TheVariants.{Link, Peer}
-use Rattle.xp_protocol.specs.Promised.{IsLine, IsPrefixOf, accepted_of, acked_of, other, records_of}
+use Rattle.xp_protocol.specs.Promised.{IsLine, accepted_of, acked_of, name_of, other, records_of}
 use Rattle.xp_protocol.specs.Pulling.{Pulling}
 use Rattle.xp_protocol.specs.Records.{Recorded}
 use Rattle.xp_protocol.specs.Sending.{Sending}
-use Rattle.xp_protocol.specs.State.{End, may_copy}
+use Rattle.xp_protocol.specs.State.{Contact, is_begun, may_copy}
 use Rattle.xp_invariants.specs.Between.{IsStepBy, word_after}
 use Rattle.xp_invariants.specs.Flags.{end_at, InContact}
 
@@ -76,8 +76,17 @@ pub record StoresCounter (s : Scenario) (before : List Event) (a p q c f : ℕ) 
 
 -- of p's end of a line
 pub record Lines (s : Scenario) (h : List Event) : Type 0 where
-  -- where p may copy the words of q: its newest record is that of the connection, and by q's record
-  -- of it, what p has acknowledged, taken, pulled and seen, and what q has put, follow each other
+  -- an end in contact that is begun has a record of its connection, and that is its newest one
+  pub recorded : (p q c : ℕ) (m : Contact) → IsLine s p q c →
+      (end_at s h p q c).shake.meet ≡ Some m → is_begun (end_at s h p q c) ≡ true →
+      (r : Recorded) × (slice_get (records_of s h p q c) 0 ≡ Some r)
+      × (name_of r ≡ record {
+        epoch = (end_at s h p q c).epoch;
+        own = m.own;
+        theirs = m.theirs;
+      })
+  -- where p may copy the words of q: what p has acknowledged, taken, pulled and seen, and what q has
+  -- put and had accepted, follow each other
   pub received : (p q c : ℕ) → IsLine s p q c → may_copy (end_at s h p q c) ≡ true →
       (r : Recorded) → slice_get (records_of s h p q c) 0 ≡ Some r →
       IsReceived (end_at s h p q c).sides.pull r (put_word s h q p c)
