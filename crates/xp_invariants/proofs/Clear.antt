@@ -1,12 +1,10 @@
 -- A partition's own magic for a partner and its bit there are what it knows of them, and what each step leaves of that.
-use Rattle.std.proofs.Common.{◌≡◌, ℕ, ◌+◌, ◌<◌, Bool, true, false, ◌||◌, ◌&&◌, not, cond, eqb, ltb, List, [], ◌∷◌, ◌++◌, length, refl, ap, sym, ◌∙◌, subst, arith, Option, Some, None, inl, inr, ◌⊎◌}
+use Rattle.std.proofs.Common.{◌≡◌, ℕ, ◌+◌, ◌<◌, Bool, true, false, ◌&&◌, not, cond, eqb, ltb, [], ◌∷◌, ◌++◌, length, refl, ap, sym, ◌∙◌, subst, arith, Option, Some, None, inl, inr, ◌⊎◌}
 use Rattle.std.specs.Prelude.{is_some, IsSome}
-use Rattle.std.specs.Int.{bit_at}
 use Rattle.std.proofs.lemmas.Bool.{cases_eq, cond_both, ne_eqb}
 use Rattle.xp_base.specs.declared.layout.TheConstants.{FIRST, SECOND, STAMP, ENGAGED, DEACTIVATION}
 use Rattle.xp_base.specs.declared.reason.Reason.{Reason}
 use Rattle.xp_base.specs.declared.reason.Reason.TheVariants.{OtherGoingDown}
-use Rattle.xp_base.specs.declared.step.Answer.{Answer}
 use Rattle.xp_base.specs.declared.step.Answer.TheVariants.{Word, Failed}
 use Rattle.xp_base.specs.declared.step.CopyMark.{CopyMark}
 use Rattle.xp_base.specs.History.{Act}
@@ -25,8 +23,8 @@ use Rattle.xp_protocol.specs.Parts.{IsLawfulPart}
 use Rattle.xp_protocol.specs.Peering.{or_zero, Here, is_bad_flags, flags_taken, is_magic, is_wrong, has_shown, with_reason, contact_made, try_contact, same_peer, record_read, area_left_for, area_off, is_left, is_flagged, peer_can, peer_effect, peer_read, deactivation_heard, peer_failed, booted_peer}
 use Rattle.xp_protocol.specs.Rules.{Can, here_of, peer_life, mark_of, peer_numbered, after_answer}
 use Rattle.xp_protocol.specs.Runs.{turned, restart_comes, stop_comes, moment_by, is_over}
-use Rattle.xp_protocol.specs.State.{State, Life, Booting, Up, Halted, Area, Old, Off, Ready, Leaving, Reading, Peer, cold_peer, peer_of}
-use Rattle.xp_protocol.proofs.Frames.{AreAll, cond_peer, wanted_at}
+use Rattle.xp_protocol.specs.State.{State, Life, Booting, Up, Halted, Area, Old, Ready, Reading, Peer, cold_peer, peer_of}
+use Rattle.xp_protocol.proofs.Frames.{cond_peer, wanted_at}
 use Rattle.xp_protocol.proofs.Slots.{at_each, at_peer}
 use Rattle.xp_meetings.proofs.Always.{at_one, one_here, does_rule, answer_word}
 use Rattle.xp_meetings.proofs.Meets.{Met, six_after, can_numbered, peer_cases, peer_else, peer_six, link_six, away, keeps_rule as met_rule, keeps_failed as met_failed, keeps_act as met_act, keeps_moment as met_moment}

@@ -1,5 +1,5 @@
 -- A copy of a partner's words goes on only while the own bit stands there: no change of an end without contact begins one.
-use Rattle.std.proofs.Common.{◌≡◌, ℕ, zero, suc, ◌<◌, Bool, true, false, ◌||◌, ◌&&◌, not, cond, eqb, List, [], ◌∷◌, ◌++◌, map, length, set, refl, ap, sym, ◌∙◌, subst, arith, Option, Some, None, inl, inr, ◌⊎◌}
+use Rattle.std.proofs.Common.{◌≡◌, ℕ, zero, suc, ◌<◌, Bool, true, false, ◌||◌, ◌&&◌, not, cond, eqb, List, [], ◌∷◌, ◌++◌, length, set, refl, ap, sym, ◌∙◌, subst, arith, Option, Some, None}
 use Rattle.std.specs.Prelude.{is_some, IsSome, nat_eq}
 use Rattle.std.proofs.lemmas.Bool.{cond_both}
 use Rattle.xp_base.specs.declared.answer.SendAnswer.{SendAnswer}
@@ -11,8 +11,6 @@ use Rattle.xp_base.specs.declared.reason.Reason.{Reason}
 use Rattle.xp_base.specs.declared.reason.Reason.TheVariants.{OtherGoingDown, Unregistered}
 use Rattle.xp_base.specs.declared.step.Answer.TheVariants.{Word, Failed}
 use Rattle.xp_base.specs.declared.step.Answer.{Answer}
-use Rattle.xp_base.specs.declared.step.CopyKind.{CopyKind}
-use Rattle.xp_base.specs.declared.step.CopyKind.TheVariants.{Counters, Entries}
 use Rattle.xp_base.specs.declared.step.CopyMark.{CopyMark}
 use Rattle.xp_base.specs.History.{Act, Begun, Answered, Noticed, NoticeKind, Delivered, Ended}
 use Rattle.xp_script.specs.Commands.{verb_of}
@@ -21,26 +19,23 @@ use Rattle.xp_script.specs.declared.command.Command.TheVariants as commands
 use Rattle.xp_script.specs.declared.log.Verb.{Verb}
 use Rattle.xp_script.specs.declared.log.Verb.TheVariants as verbs
 use Rattle.xp_script.specs.declared.part.ScenarioPart.{ScenarioPart}
-use Rattle.xp_protocol.specs.declared.contact.PartnerState.TheVariants.{Active}
 use Rattle.xp_protocol.specs.declared.refusal.TakeRefusal.{TakeRefusal}
-use Rattle.xp_protocol.specs.declared.rule.LinkRule.{LinkRule}
 use Rattle.xp_protocol.specs.declared.rule.PeerRule.{PeerRule}
 use Rattle.xp_protocol.specs.declared.rule.PeerRule.TheVariants.{AskActivation, TakeFlags, CloseArea, ZeroMagic, ClearOldBit, Prepare, OpenArea, SetEngagementBit, ReadRecord, StoreEcho, StoreSecond, ClearEngagementBit, LookAtPage, ClearDeactivationBit, TellPartner}
 use Rattle.xp_protocol.specs.declared.rule.AreaWord.TheVariants.{SessionWord, EchoWord, PlaceWord, ArgsWord, FlagWord, CounterWord}
 use Rattle.xp_protocol.specs.declared.rule.OwnRule.TheVariants.{ReadEngaged, TakeDeactivation, ReadStamp, ZeroMask, ZeroOffline, WriteStamp, StoreMask, TakeActivation}
 use Rattle.xp_protocol.specs.declared.rule.Rule.{Rule}
 use Rattle.xp_protocol.specs.declared.rule.Rule.TheVariants.{Link, Peer as ForPeer, Own}
-use Rattle.xp_protocol.specs.Acts.{Aim, aimed, aim_at, aim_by, aim_of, EndName, named_end, upcoming, current, with_aim, after_act, command_begun, say, refused_send, send_begun, take_begun, release_begun, release_held, drain_begun, drain_refusal, register_begun, unregister_begun, withdrawn, end_begun, taken_by, take_found, take_answered, answered_by, end_answered, end_noticed, unwanted}
+use Rattle.xp_protocol.specs.Acts.{Aim, aimed, aim_by, aim_of, EndName, named_end, upcoming, current, with_aim, after_act, command_begun, say, refused_send, send_begun, take_begun, release_begun, release_held, drain_begun, drain_refusal, register_begun, unregister_begun, withdrawn, end_begun, taken_by, take_found, take_answered, answered_by, end_answered, end_noticed}
 use Rattle.xp_protocol.specs.Effects.{Effect, Note, BySend, ByPull, Accepted, Sent, Heard, TakeRefused, Began, Joined, Taken, Freed, Acked, Told, ToldOver, Over, Released, Drained, Registered, Withdrawn}
-use Rattle.xp_protocol.specs.Linking.{hear, hears, close_now, down_notes, down_end, link_closed, link_down, link_finished, link_joined, booted_end, channel_closed}
-use Rattle.xp_protocol.specs.Parts.{IsLawfulPart}
-use Rattle.xp_protocol.specs.Peering.{Here, is_bad_flags, flags_taken, is_magic, is_wrong, has_shown, with_reason, contact_of, contact_made, try_contact, same_peer, record_read, area_left_for, left_engage, area_off, freed_engage, is_left, is_flagged, peer_can, peer_effect, peer_read, deactivation_heard, peer_failed, booted_peer, is_copied, any_copied, copies_go_on}
+use Rattle.xp_protocol.specs.Linking.{hear, hears, close_now, down_notes, down_end, link_down, link_finished, link_joined, booted_end, channel_closed}
+use Rattle.xp_protocol.specs.Peering.{Here, is_bad_flags, flags_taken, is_magic, is_wrong, has_shown, with_reason, contact_of, contact_made, try_contact, same_peer, record_read, area_left_for, area_off, is_left, is_flagged, peer_can, peer_effect, peer_read, deactivation_heard, peer_failed, booted_peer, is_copied, any_copied, copies_go_on}
 use Rattle.xp_protocol.specs.Pulling.{take_refusal}
 use Rattle.xp_protocol.specs.Releasing.{release_refusal, message_released}
 use Rattle.xp_base.specs.declared.answer.RegisterAnswer.TheVariants.{Ok as RegisterOk, Already}
 use Rattle.xp_base.specs.declared.answer.UnregisterAnswer.TheVariants.{Ok as UnregisterOk, NotRegistered}
 use Rattle.xp_protocol.specs.Rules.{Can, here_of, mark_of, peer_numbered, after_answer}
-use Rattle.xp_protocol.specs.Runs.{turned, restart_comes, stop_comes, moment_by, is_over}
+use Rattle.xp_protocol.specs.Runs.{turned, moment_by}
 use Rattle.xp_protocol.specs.State.{State, each, End, Size, Contact, Reading, Old, Peer, cold_peer, idle_end, idle_links, link_at, link_of, is_begun, end_of, peer_of}
 use Rattle.xp_protocol.proofs.Frames.{cond_peer, wanted_at, idle_at}
 use Rattle.xp_protocol.proofs.Slots.{at_each, at_peer, at_slot}

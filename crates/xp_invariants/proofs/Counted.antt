@@ -1,5 +1,5 @@
 -- Which rules store a counter.
-use Rattle.std.proofs.Common.{◌≡◌, ℕ, ◌<◌, Bool, true, false, ◌&&◌, cond, eqb, refl, ap, sym, ◌∙◌, subst, inl, inr, ◌⊎◌}
+use Rattle.std.proofs.Common.{◌≡◌, ℕ, Bool, true, false, ◌&&◌, cond, eqb, refl, inl, inr, ◌⊎◌}
 use Rattle.std.proofs.lemmas.Bool.{eqb-true, and_parts}
 use Rattle.xp_base.specs.Places.{Counter}
 use Rattle.xp_script.specs.declared.part.ScenarioPart.{ScenarioPart}
@@ -11,7 +11,7 @@ use Rattle.xp_protocol.specs.declared.rule.PeerRule.TheVariants.{AskActivation, 
 use Rattle.xp_protocol.specs.declared.rule.OwnRule.TheVariants.{ReadEngaged, TakeDeactivation, ReadStamp, ZeroMask, ZeroOffline, WriteStamp, StoreMask, TakeActivation}
 use Rattle.xp_protocol.specs.declared.rule.Rule.{Rule}
 use Rattle.xp_protocol.specs.declared.rule.Rule.TheVariants.{Link, Peer as ForPeer, Own}
-use Rattle.xp_protocol.specs.State.{State, end_of}
+use Rattle.xp_protocol.specs.State.{State}
 use Rattle.xp_meetings.proofs.Always.{does_rule}
 use Rattle.xp_meetings.proofs.Words.{Words, write}
 use Rattle.xp_invariants.specs.Lines.{IsCounterRule}

@@ -1,7 +1,7 @@
 -- That one line can have five connections: two epochs of one contact, one of a contact that was lost and made anew, and one after a restart of each side.
 -- One end is run through all of it, fed with what its partner's words show; each part begins where the one before ends.
-use Rattle.std.proofs.Common.{◌≡◌, ℕ, ◌+◌, ◌<◌, ◌^◌, Bool, true, false, List, [], ◌∷◌, ◌++◌, replicate, refl, arith, Option, Some, None, inr}
-use Rattle.std.specs.Prelude.{IsSome, slice_set, map}
+use Rattle.std.proofs.Common.{◌≡◌, ℕ, ◌+◌, true, List, [], ◌∷◌, ◌++◌, refl, arith, Option, Some, None, inr}
+use Rattle.std.specs.Prelude.{map}
 use Rattle.xp_base.specs.declared.layout.TheConstants.{SIGNATURE, VERSION, VARIABLES_AT, RECORDS_AT, ARGS_AT, COUNTERS_AT, FLAGS_AT}
 use Rattle.xp_base.specs.declared.reason.Reason.{Reason}
 use Rattle.xp_base.specs.declared.reason.Reason.TheVariants.{CopyError, Reactivating, Unregistered}
@@ -14,7 +14,6 @@ use Rattle.xp_base.specs.Sessions.{session_word}
 use Rattle.xp_base.specs.Windows.{back_off_of}
 use Rattle.xp_script.specs.declared.part.Link.{Link}
 use Rattle.xp_protocol.specs.declared.contact.Look.TheVariants.{Good}
-use Rattle.xp_protocol.specs.declared.contact.PartnerState.TheVariants.{Active}
 use Rattle.xp_protocol.specs.declared.rule.AreaWord.TheVariants.{SessionWord, EchoWord, PlaceWord, ArgsWord, FlagWord, CounterWord}
 use Rattle.xp_protocol.specs.declared.rule.Argument.TheVariants.{Request, Reply, Code}
 use Rattle.xp_protocol.specs.declared.rule.LinkRule.{LinkRule}
@@ -24,11 +23,11 @@ use Rattle.xp_protocol.specs.declared.rule.PeerRule.TheVariants.{AskActivation, 
 use Rattle.xp_protocol.specs.declared.rule.RecordField.TheVariants.{ArgsPlace, CountersPlace, FlagPlace, ChannelCount, Spare}
 use Rattle.xp_protocol.specs.Acts.{register_begun, unregister_begun}
 use Rattle.xp_protocol.specs.Effects.{Effect, just, and_then, Note, with_notes}
-use Rattle.xp_protocol.specs.Linking.{link_can, link_effect, flags_got, settled, joined_end}
+use Rattle.xp_protocol.specs.Linking.{link_can, link_effect, flags_got, settled}
 use Rattle.xp_protocol.specs.Peering.{first_magic, second_magic, Here, with_reason, peer_can, peer_effect, peer_read, deactivation_heard, peer_failed, failed_reason, booted_peer}
 use Rattle.xp_protocol.specs.Promised.{Name, name_of}
-use Rattle.xp_protocol.specs.Records.{Recorded, opened_record}
-use Rattle.xp_protocol.specs.State.{Contact, Decided, End, Engage, Peer, Size, Off, Ready, cold_peer, first_contact, idle_end, idle_links, link_at, link_of, none_going, set_link, warm_end, warm_engage, warm_peer}
+use Rattle.xp_protocol.specs.Records.{opened_record}
+use Rattle.xp_protocol.specs.State.{Contact, End, Peer, Size, Off, Ready, cold_peer, first_contact, idle_end, idle_links, link_of, none_going, set_link, warm_end, warm_engage, warm_peer}
 
 -- what an end does, or what comes to it
 data Step : Type 0 where

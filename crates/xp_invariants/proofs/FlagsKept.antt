@@ -13,27 +13,25 @@ use Rattle.xp_base.specs.Places.{Place, IsWithin, Open, Flag, Args, Entry, index
 use Rattle.xp_script.specs.declared.scenario.Scenario.{Scenario}
 use Rattle.xp_script.specs.Lawful.{IsLawful}
 use Rattle.xp_script.specs.Opening.{opening}
-use Rattle.xp_protocol.specs.Linking.{code_of}
 use Rattle.xp_protocol.specs.Peering.{session_now}
-use Rattle.xp_protocol.specs.Promised.{IsLine, size_sent, memory_by}
+use Rattle.xp_protocol.specs.Promised.{IsLine, memory_by}
 use Rattle.xp_protocol.specs.Reached.{ReachedWords, state_at}
-use Rattle.xp_protocol.specs.State.{State, Life, Booting, Up, Halted, Contact, End, Old, Ready, Replied, end_of, peer_of, request_word}
+use Rattle.xp_protocol.specs.State.{State, Life, Booting, Up, Halted, Contact, End, Old, Ready, Replied, end_of, peer_of}
 use Rattle.xp_meetings.proofs.Both.{Side}
 use Rattle.xp_meetings.proofs.Meets.{left, right}
 use Rattle.xp_meetings.proofs.Six.{six}
 use Rattle.xp_meetings.proofs.Parts.{Part}
 use Rattle.xp_meetings.proofs.Ties.{stamp_by}
-use Rattle.xp_meetings.proofs.Touch.{now, IsWaiting}
 use Rattle.xp_meetings.proofs.Words.{Words, Agrees}
-use Rattle.xp_promises.proofs.Arguments.{Argued, SaidBy, HeardBy}
+use Rattle.xp_promises.proofs.Arguments.{SaidBy}
 use Rattle.xp_promises.proofs.Before.{part_at}
 use Rattle.xp_promises.proofs.FlagEnds.{Kinds as Five, no_kinds as no_five}
-use Rattle.xp_promises.proofs.FlagKept.{Slot, Even, Ahead, Behind, Sound, epochs}
+use Rattle.xp_promises.proofs.FlagKept.{Slot, Even, Ahead, Sound, epochs}
 use Rattle.xp_promises.proofs.Headline.{Holds, Joined, turned, apart, bound}
-use Rattle.xp_promises.proofs.Lines.{Area, area_at, five, control, terms, View, view, fresh, Room, Fine, FineAt}
-use Rattle.xp_promises.proofs.Reuses.{Both, whole_both}
+use Rattle.xp_promises.proofs.Lines.{Area, area_at, five, control, terms, View, fresh, Room, FineAt}
+use Rattle.xp_promises.proofs.Reuses.{whole_both}
 use Rattle.xp_invariants.specs.Between.{word_after}
-use Rattle.xp_invariants.specs.Flags.{end_at, flags_set, InContact, IsControl, IsPlaced, IsAwaited, HasArguments, FlagQueue}
+use Rattle.xp_invariants.specs.Flags.{flags_set, InContact, IsControl, IsPlaced, HasArguments, FlagQueue}
 use Rattle.xp_invariants.proofs.Standing.{reached_by, known_at}
 
 placed_some : (w t g s : Bool) → Slot w t g s → s ≡ (w || (t || g))

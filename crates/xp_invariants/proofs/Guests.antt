@@ -1,14 +1,14 @@
 -- Guest and host of every two partitions, in the words of the law.
-use Rattle.std.proofs.Common.{◌≡◌, ℕ, ◌<◌, Bool, true, false, cond, eqb, List, [], ◌∷◌, ◌++◌, refl, ap, sym, ◌∙◌, subst, arith, Option, Some, None, inl, inr, ◌⊎◌}
+use Rattle.std.proofs.Common.{◌≡◌, ℕ, ◌<◌, Bool, true, false, cond, List, [], ◌∷◌, ◌++◌, refl, ap, sym, ◌∙◌, subst, arith, Option, Some, None, inl, inr, ◌⊎◌}
 use Rattle.std.specs.Prelude.{is_some}
 use Rattle.std.specs.Int.{bit_at}
 use Rattle.std.proofs.lemmas.Bool.{cases_eq}
 use Rattle.std.proofs.lemmas.List.{append-nil, append_assoc}
-use Rattle.xp_base.specs.declared.layout.TheConstants.{CHANNELS, ENGAGED, FIRST, SECOND, PARTS, RECORD_WORDS}
+use Rattle.xp_base.specs.declared.layout.TheConstants.{ENGAGED, PARTS, RECORD_WORDS}
 use Rattle.xp_base.specs.declared.step.Answer.{Answer}
 use Rattle.xp_base.specs.declared.step.Answer.TheVariants.{Word, Failed}
 use Rattle.xp_base.specs.declared.step.Op.{Op}
-use Rattle.xp_base.specs.Memory.{Memory, answer_of}
+use Rattle.xp_base.specs.Memory.{Memory}
 use Rattle.xp_base.specs.History.{Event, Poked, Marked, Turn, Turned, IsAnswer, IsAnswered, after_answer, after_made}
 use Rattle.xp_base.specs.Places.{Open, Record}
 use Rattle.xp_script.specs.declared.part.ScenarioPart.{ScenarioPart}
@@ -21,26 +21,23 @@ use Rattle.xp_protocol.specs.declared.rule.Rule.{Rule}
 use Rattle.xp_protocol.specs.declared.rule.Rule.TheVariants.{Peer as ForPeer}
 use Rattle.xp_protocol.specs.Decode.{rule_of}
 use Rattle.xp_protocol.specs.Peering.{is_copied, read_place}
-use Rattle.xp_protocol.specs.Promised.{engaged_at, known_acted, memory_by, word_of}
+use Rattle.xp_protocol.specs.Promised.{known_acted, memory_by, word_of}
 use Rattle.xp_protocol.specs.Reached.{ReachedWords, state_at}
-use Rattle.xp_protocol.specs.Rules.{Can, op_of, row_of, owner}
+use Rattle.xp_protocol.specs.Rules.{op_of, row_of, owner}
 use Rattle.xp_protocol.specs.Runs.{MayStep, MayMake, May, after_turn}
-use Rattle.xp_protocol.specs.State.{State, Life, Booting, Up, Halted, Area, Off, Old, Ready, Leaving, end_of, peer_of}
+use Rattle.xp_protocol.specs.State.{State, Up, Area, Off, Old, Ready, Leaving, end_of, peer_of}
 use Rattle.xp_protocol.proofs.Undo.{within, owner_low}
 use Rattle.xp_meetings.proofs.Both.{free_zeroed}
 use Rattle.xp_meetings.proofs.Meets.{PairAt}
-use Rattle.xp_meetings.proofs.Parts.{Part}
 use Rattle.xp_meetings.proofs.Six.{six}
 use Rattle.xp_meetings.proofs.Words.{Words, Agrees, agrees}
 use Rattle.xp_promises.proofs.Before.{Before, part_at, at_step, split, memory-append}
-use Rattle.xp_promises.proofs.Guard.{guarded_kept}
 use Rattle.xp_invariants.specs.Between.{ArePartners, HasBooted, IsStepBy, word_after, bit_after, engage_at}
 use Rattle.xp_invariants.specs.Hosts.{magic_of, HasSeen, MayRecord, GuestAndHost}
 use Rattle.xp_invariants.proofs.Clear.{ClearAt}
-use Rattle.xp_invariants.proofs.Copies.{Copies}
-use Rattle.xp_invariants.proofs.HostStays.{Stays, turn_stays}
+use Rattle.xp_invariants.proofs.HostStays.{turn_stays}
 use Rattle.xp_invariants.proofs.OldBits.{Kept, old_act, old_rule, old_failed, old_moment}
-use Rattle.xp_invariants.proofs.Onward.{Next, next, own_turn, other_turn, step_state, onward}
+use Rattle.xp_invariants.proofs.Onward.{next, own_turn, other_turn, step_state, onward}
 use Rattle.xp_invariants.proofs.Recorded.{Changes, record_kept}
 use Rattle.xp_invariants.proofs.Standing.{Standing, lawful, reached_by, stands, before_stands, known_at}
 

@@ -1,6 +1,6 @@
 -- An area isn't freed in a turn in which the partner's bit stands.
-use Rattle.std.proofs.Common.{◌≡◌, ℕ, ◌<◌, Bool, true, false, ◌&&◌, not, cond, eqb, List, [], ◌∷◌, ◌++◌, length, refl, ap, sym, ◌∙◌, subst, arith, Option, Some, None}
-use Rattle.std.specs.Prelude.{is_some, IsSome}
+use Rattle.std.proofs.Common.{◌≡◌, ℕ, Bool, true, false, ◌&&◌, not, cond, eqb, List, [], ◌∷◌, ◌++◌, length, refl, ap, sym, ◌∙◌, subst, Option, Some, None}
+use Rattle.std.specs.Prelude.{is_some}
 use Rattle.std.specs.Int.{bit_at}
 use Rattle.std.proofs.lemmas.Bool.{cond_both, eq-eqb}
 use Rattle.xp_base.specs.declared.layout.TheConstants.{ENGAGED}
@@ -12,7 +12,6 @@ use Rattle.xp_base.specs.declared.step.Op.{Op}
 use Rattle.xp_base.specs.declared.step.CopyMark.{CopyMark}
 use Rattle.xp_base.specs.Memory.{Memory, word_at}
 use Rattle.xp_base.specs.History.{Act, Marked, Turn, IsAnswer, IsAnswered}
-use Rattle.xp_base.specs.Places.{Open}
 use Rattle.xp_script.specs.declared.part.ScenarioPart.{ScenarioPart}
 use Rattle.xp_protocol.specs.declared.rule.AreaWord.TheVariants.{SessionWord, EchoWord, PlaceWord, ArgsWord, FlagWord, CounterWord}
 use Rattle.xp_protocol.specs.declared.rule.PeerRule.{PeerRule}
@@ -21,14 +20,12 @@ use Rattle.xp_protocol.specs.declared.rule.OwnRule.TheVariants.{ReadEngaged, Tak
 use Rattle.xp_protocol.specs.declared.rule.Rule.{Rule}
 use Rattle.xp_protocol.specs.declared.rule.Rule.TheVariants.{Link, Peer as ForPeer, Own}
 use Rattle.xp_protocol.specs.Acts.{Aim, aimed, with_aim, after_act, after_acts, command_begun}
-use Rattle.xp_protocol.specs.Peering.{Here, is_bad_flags, flags_taken, is_magic, is_wrong, has_shown, with_reason, contact_made, try_contact, same_peer, record_read, area_left_for, area_off, is_left, is_flagged, peer_can, peer_effect, peer_read, deactivation_heard, peer_failed, booted_peer}
-use Rattle.xp_protocol.specs.Rules.{Can, here_of, mark_of, peer_numbered, after_answer, op_of}
-use Rattle.xp_protocol.specs.Decode.{rule_of}
-use Rattle.xp_protocol.specs.Runs.{MayStep, MayMake, May, acted, after_ruled, after_step, after_turn, moment_by, restart_comes, stop_comes, is_over, turn_counted}
-use Rattle.xp_protocol.specs.State.{State, Area, Old, Off, Ready, Leaving, Reading, Peer, cold_peer, peer_of}
+use Rattle.xp_protocol.specs.Peering.{Here, is_bad_flags, flags_taken, is_magic, is_wrong, has_shown, with_reason, contact_made, try_contact, same_peer, record_read, area_left_for, area_off, is_left, is_flagged, peer_effect, peer_read, deactivation_heard, peer_failed, booted_peer}
+use Rattle.xp_protocol.specs.Rules.{here_of, mark_of, peer_numbered, after_answer, op_of}
+use Rattle.xp_protocol.specs.Runs.{MayMake, May, acted, after_ruled, after_step, after_turn, moment_by, restart_comes, stop_comes, is_over, turn_counted}
+use Rattle.xp_protocol.specs.State.{State, Old, Off, Reading, Peer, cold_peer, peer_of}
 use Rattle.xp_protocol.proofs.Frames.{cond_peer, wanted_at}
 use Rattle.xp_protocol.proofs.Slots.{at_each, at_peer}
-use Rattle.xp_meetings.proofs.Meets.{can_numbered}
 
 -- the area for a partner isn't free
 abbrev Taken : Peer → Type 0

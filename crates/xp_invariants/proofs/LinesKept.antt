@@ -1,24 +1,22 @@
 -- The line of a connection, in the words of the law.
 use Rattle.std.proofs.Common.{◌≡◌, ℕ, ◌+◌, ◌*◌, ◌%◌, ◌<◌, ◌≤◌, Bool, true, false, List, [], ◌∷◌, ◌++◌, length, refl, ap, sym, ◌∙◌, subst, arith, Option, Some, None, inl, inr, ◌⊎◌}
-use Rattle.std.specs.Prelude.{is_some, slice_get, slice_index}
+use Rattle.std.specs.Prelude.{is_some, slice_get}
 use Rattle.std.proofs.Math.ListN.{length-append}
 use Rattle.std.proofs.Math.Nat.{mul_assoc, mul_comm}
 use Rattle.xp_base.specs.declared.layout.TheConstants.{PARTS}
-use Rattle.xp_base.specs.declared.session.Session.{Session}
 use Rattle.xp_base.specs.declared.step.Answer.{Answer}
 use Rattle.xp_base.specs.declared.step.Answer.TheVariants.{Word, Failed}
-use Rattle.xp_base.specs.Entries.{entry_words, lines, message_word}
+use Rattle.xp_base.specs.Entries.{entry_words, lines}
 use Rattle.xp_base.specs.Memory.{Memory}
 use Rattle.xp_base.specs.History.{Event, Marked, Turn, Turned, after_answer, after_made, turns_of}
-use Rattle.xp_base.specs.Places.{Place, IsWithin, Counter, Entry}
+use Rattle.xp_base.specs.Places.{IsWithin, Counter, Entry}
 use Rattle.xp_script.specs.declared.part.ScenarioPart.{ScenarioPart}
 use Rattle.xp_script.specs.declared.scenario.Scenario.{Scenario}
 use Rattle.xp_script.specs.Lawful.{IsLawful}
 use Rattle.xp_script.specs.Opening.{opening}
 use Rattle.xp_script.specs.Parts.{part_of}
-use Rattle.xp_protocol.specs.declared.rule.Rule.{Rule}
 use Rattle.xp_protocol.specs.Decode.{rule_of}
-use Rattle.xp_protocol.specs.Promised.{IsLine, Name, name_of, exchanged, by_name, first_named, accepted_of, acked_of, other, records_of, memory_by, word_of, known_acted}
+use Rattle.xp_protocol.specs.Promised.{IsLine, Name, name_of, exchanged, by_name, first_named, accepted_of, acked_of, records_of, memory_by, word_of, known_acted}
 use Rattle.xp_protocol.specs.Reached.{ReachedWords, state_at}
 use Rattle.xp_protocol.specs.Pulling.{Pulling}
 use Rattle.xp_protocol.specs.Records.{Recorded}
@@ -37,8 +35,8 @@ use Rattle.xp_promises.proofs.Books.{HasFirst, at, named, name_here}
 use Rattle.xp_promises.proofs.Direction.{Out, In, Kept, Held}
 use Rattle.xp_promises.proofs.FlagUse.{copying}
 use Rattle.xp_promises.proofs.Headline.{Holds, Joined, turned, apart, bound, other_accepted}
-use Rattle.xp_promises.proofs.Lines.{Area, area_at, five, control, View, view, Line, Room, Fine, FineAt}
-use Rattle.xp_promises.proofs.Rests.{in_side, Mine}
+use Rattle.xp_promises.proofs.Lines.{Area, area_at, five, control, View, view, Line, Room, FineAt}
+use Rattle.xp_promises.proofs.Rests.{in_side}
 use Rattle.xp_promises.proofs.Ring.{mod_less, within_times}
 use Rattle.xp_promises.proofs.Reuses.{whole_both, other_acked}
 use Rattle.xp_promises.proofs.Steps.{Open, open_copy, got_at, sent_at}

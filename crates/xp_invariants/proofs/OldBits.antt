@@ -1,9 +1,8 @@
 -- While a partition boots, its bit at another is as it was before in that boot, until it clears it.
-use Rattle.std.proofs.Common.{◌≡◌, ℕ, ◌+◌, ◌<◌, ◌≤◌, Bool, true, false, not, ◌&&◌, cond, eqb, ltb, refl, ap, sym, ◌∙◌, subst, arith, Option, Some, None, inl, inr, ◌⊎◌, length}
+use Rattle.std.proofs.Common.{◌≡◌, ℕ, ◌<◌, ◌≤◌, Bool, true, false, not, ◌&&◌, cond, eqb, refl, ap, sym, ◌∙◌, subst, arith, Option, Some, None, inl, inr, ◌⊎◌}
 use Rattle.std.specs.Int.{bit_at}
-use Rattle.std.specs.Prelude.{IsSome, is_some}
 use Rattle.std.proofs.lemmas.Bool.{cases_eq, ne_eqb, eq-eqb}
-use Rattle.xp_base.specs.declared.layout.TheConstants.{PARTS, ENGAGED, STAMP}
+use Rattle.xp_base.specs.declared.layout.TheConstants.{PARTS, ENGAGED}
 use Rattle.xp_base.specs.declared.step.Answer.TheVariants.{Word, Failed}
 use Rattle.xp_base.specs.declared.step.CopyMark.{CopyMark}
 use Rattle.xp_base.specs.History.{Act}
@@ -12,21 +11,20 @@ use Rattle.xp_script.specs.declared.part.ScenarioPart.{ScenarioPart}
 use Rattle.xp_script.specs.declared.scenario.Scenario.{Scenario}
 use Rattle.xp_script.specs.Lawful.{IsLawful}
 use Rattle.xp_script.specs.Parts.{part_of}
-use Rattle.xp_protocol.specs.declared.rule.PeerRule.{PeerRule}
 use Rattle.xp_protocol.specs.declared.rule.PeerRule.TheVariants.{AskActivation, TakeFlags, CloseArea, ZeroMagic, ClearOldBit, Prepare, OpenArea, SetEngagementBit, ReadRecord, StoreEcho, StoreSecond, ClearEngagementBit, LookAtPage, ClearDeactivationBit, TellPartner}
 use Rattle.xp_protocol.specs.declared.rule.OwnRule.TheVariants.{ReadEngaged, TakeDeactivation, ReadStamp, ZeroMask, ZeroOffline, WriteStamp, StoreMask, TakeActivation}
 use Rattle.xp_protocol.specs.declared.rule.Rule.{Rule}
 use Rattle.xp_protocol.specs.declared.rule.Rule.TheVariants.{Link, Peer as ForPeer, Own}
 use Rattle.xp_protocol.specs.Acts.{MayAct, Aim, aimed, with_aim}
-use Rattle.xp_protocol.specs.Peering.{Here, peer_effect, peer_failed}
-use Rattle.xp_protocol.specs.Rules.{Can, here_of, mark_of, peer_numbered, after_answer}
+use Rattle.xp_protocol.specs.Peering.{peer_failed}
+use Rattle.xp_protocol.specs.Rules.{Can, mark_of}
 use Rattle.xp_protocol.specs.Runs.{turned, restart_comes, stop_comes, moment_by, is_over}
-use Rattle.xp_protocol.specs.State.{State, Life, Booting, Up, Halted, Peer, peer_of}
+use Rattle.xp_protocol.specs.State.{State, Life, Booting, Up, Peer, peer_of}
 use Rattle.xp_protocol.proofs.Slots.{at_peer}
 use Rattle.xp_meetings.proofs.Always.{at_one, does_rule, answer_word}
 use Rattle.xp_meetings.proofs.Meets.{peer_else, peer_cases}
 use Rattle.xp_meetings.proofs.Parts.{Part, part_act, part_ruled, part_moment}
-use Rattle.xp_meetings.proofs.Six.{Six, six}
+use Rattle.xp_meetings.proofs.Six.{Six}
 use Rattle.xp_meetings.proofs.Words.{Words}
 use Rattle.xp_promises.proofs.Guard.{bits_kept}
 use Rattle.xp_invariants.proofs.Standing.{Standing, lawful, stands_act, stands_rule, stands_failed, stands_moment}

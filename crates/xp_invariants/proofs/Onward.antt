@@ -1,9 +1,9 @@
 -- How a history goes on: by one turn, and by any events from a point where a fact is known.
-use Rattle.std.proofs.Common.{◌≡◌, ℕ, ◌<◌, eqb, Bool, true, false, cond, List, [], ◌∷◌, ◌++◌, refl, ap, sym, ◌∙◌, subst}
+use Rattle.std.proofs.Common.{◌≡◌, ℕ, ◌<◌, eqb, Bool, true, cond, List, [], ◌∷◌, ◌++◌, refl, ap, sym, ◌∙◌, subst}
 use Rattle.std.proofs.lemmas.Bool.{eq-eqb, ne_eqb, eqb-true}
 use Rattle.xp_base.specs.declared.step.Answer.TheVariants.{Word, Failed}
 use Rattle.xp_base.specs.Memory.{Memory}
-use Rattle.xp_base.specs.History.{Act, Marked, Turn, Event, Turned, IsAnswered, Legal, happens, turns_of}
+use Rattle.xp_base.specs.History.{Act, Turn, Event, Turned, IsAnswered, turns_of}
 use Rattle.xp_base.proofs.HistoryLemmas.{turns_of-append}
 use Rattle.xp_script.specs.declared.part.ScenarioPart.{ScenarioPart}
 use Rattle.xp_script.specs.declared.scenario.Scenario.{Scenario}
@@ -20,7 +20,7 @@ use Rattle.xp_protocol.specs.State.{State}
 use Rattle.xp_meetings.proofs.Always.{at_one, acts_at, after_by, always, may_by, moment_at, one_kept, does_rule, answer_word}
 use Rattle.xp_meetings.proofs.Parts.{Part, part_start, part_act, part_acts, part_from, part_moment, part_ruled, part_step, part_turn, acts_state, from_state}
 use Rattle.xp_meetings.proofs.Words.{Words, Agrees}
-use Rattle.xp_promises.proofs.Before.{Legal-prefix, is_part, part_at, at_step, split, memory-append}
+use Rattle.xp_promises.proofs.Before.{Legal-prefix, is_part, part_at, at_step, split}
 
 -- what a partition knows after one turn more
 state_more : (su : ScenarioPart) (st : State) (ts us : List Turn) → state_after su st (ts ++ us) ≡ state_after su (state_after su st ts) us

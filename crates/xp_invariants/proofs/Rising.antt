@@ -1,8 +1,8 @@
 -- The session under which an area was opened last never falls, and rises where the area is opened.
-use Rattle.std.proofs.Common.{◌≡◌, ℕ, ◌+◌, ◌*◌, ◌<◌, ◌≤◌, Bool, true, false, not, ◌&&◌, cond, eqb, ltb, List, ◌∷◌, ◌++◌, [], length, refl, ap, sym, ◌∙◌, subst, arith, Option, Some, None, inl, inr, ◌⊎◌}
+use Rattle.std.proofs.Common.{◌≡◌, ℕ, ◌+◌, ◌*◌, ◌<◌, ◌≤◌, Bool, true, false, not, ◌&&◌, cond, eqb, ltb, ◌∷◌, ◌++◌, [], length, refl, sym, subst, arith, Option, Some, None, inl, inr, ◌⊎◌}
 use Rattle.std.specs.Prelude.{is_some, IsSome}
 use Rattle.std.proofs.lemmas.Bool.{cases_eq, cond_both, ne_eqb, eq-eqb}
-use Rattle.xp_base.specs.declared.layout.TheConstants.{STAMP, ENGAGED, DEACTIVATION}
+use Rattle.xp_base.specs.declared.layout.TheConstants.{STAMP}
 use Rattle.xp_base.specs.declared.reason.Reason.{Reason}
 use Rattle.xp_base.specs.declared.reason.Reason.TheVariants.{OtherGoingDown}
 use Rattle.xp_base.specs.declared.step.Answer.{Answer}
@@ -20,7 +20,7 @@ use Rattle.xp_protocol.specs.declared.rule.PeerRule.TheVariants.{AskActivation, 
 use Rattle.xp_protocol.specs.declared.rule.OwnRule.TheVariants.{ReadEngaged, TakeDeactivation, ReadStamp, ZeroMask, ZeroOffline, WriteStamp, StoreMask, TakeActivation}
 use Rattle.xp_protocol.specs.declared.rule.Rule.{Rule}
 use Rattle.xp_protocol.specs.declared.rule.Rule.TheVariants.{Link, Peer as ForPeer, Own}
-use Rattle.xp_protocol.specs.Acts.{MayAct, Aim, aimed, with_aim, after_act, command_begun}
+use Rattle.xp_protocol.specs.Acts.{MayAct, Aim, aimed, with_aim, command_begun}
 use Rattle.xp_protocol.specs.Peering.{or_zero, Here, is_bad_flags, flags_taken, is_magic, is_wrong, has_shown, with_reason, contact_made, try_contact, same_peer, record_read, area_left_for, area_off, is_left, is_flagged, peer_effect, peer_read, deactivation_heard, peer_failed, booted_peer}
 use Rattle.xp_protocol.specs.Rules.{Can, here_of, mark_of, peer_numbered, after_answer}
 use Rattle.xp_protocol.specs.Runs.{turned, restart_comes, stop_comes, moment_by, is_over, is_halted}
@@ -33,7 +33,6 @@ use Rattle.xp_meetings.proofs.Parts.{Part, part_act, part_ruled, part_moment}
 use Rattle.xp_meetings.proofs.Six.{stamp_at}
 use Rattle.xp_meetings.proofs.Ties.{stamp_by}
 use Rattle.xp_meetings.proofs.Words.{Words}
-use Rattle.xp_invariants.proofs.OldBits.{aim_life}
 use Rattle.xp_invariants.proofs.Standing.{Standing, lawful, stands_act, stands_rule, stands_failed, stands_moment}
 
 -- the number of the session under which an area was opened last, if it was opened in this boot

@@ -1,18 +1,15 @@
 -- Sessions, echoes and contacts, in the words of the law.
-use Rattle.std.proofs.Common.{length, ◌≡◌, ℕ, ◌+◌, ◌*◌, ◌/◌, ◌%◌, ◌<◌, ◌≤◌, true, List, [], ◌∷◌, ◌++◌, refl, ap, sym, ◌∙◌, subst, arith, Option, Some, None, inl, inr, ◌⊎◌}
+use Rattle.std.proofs.Common.{length, ◌≡◌, ℕ, ◌<◌, ◌≤◌, true, List, [], ◌∷◌, ◌++◌, refl, ap, sym, ◌∙◌, subst, arith, Option, Some, None}
 use Rattle.std.specs.Prelude.{is_some}
 use Rattle.std.proofs.lemmas.List.{append_assoc}
 use Rattle.xp_base.specs.declared.layout.TheConstants.{PARTS, STAMP}
-use Rattle.xp_base.specs.declared.session.Session.{Session}
 use Rattle.xp_base.specs.declared.step.Answer.{Answer}
 use Rattle.xp_base.specs.declared.step.Answer.TheVariants.{Word, Failed}
-use Rattle.xp_base.specs.declared.step.OpKind.TheVariants.{Load}
-use Rattle.xp_base.specs.declared.step.OpKind.{OpKind}
 use Rattle.xp_base.specs.declared.step.Op.{Op}
-use Rattle.xp_base.specs.Memory.{Memory, answer_of}
+use Rattle.xp_base.specs.Memory.{Memory}
 use Rattle.xp_base.specs.History.{Event, Marked, Turn, Turned, IsAnswer, IsAnswered, after_answer, after_made}
 use Rattle.xp_base.specs.Places.{Open, Record}
-use Rattle.xp_base.specs.Sessions.{session_word, session_of}
+use Rattle.xp_base.specs.Sessions.{session_word}
 use Rattle.xp_script.specs.declared.part.ScenarioPart.{ScenarioPart}
 use Rattle.xp_script.specs.declared.scenario.Scenario.{Scenario}
 use Rattle.xp_script.specs.Lawful.{IsLawful}
@@ -23,20 +20,19 @@ use Rattle.xp_protocol.specs.declared.rule.Rule.{Rule}
 use Rattle.xp_protocol.specs.declared.rule.Rule.TheVariants.{Peer as ForPeer}
 use Rattle.xp_protocol.specs.Decode.{rule_of}
 use Rattle.xp_protocol.specs.Peering.{or_zero, session_next}
-use Rattle.xp_protocol.specs.Promised.{known_acted, memory_by, word_of}
+use Rattle.xp_protocol.specs.Promised.{memory_by}
 use Rattle.xp_protocol.specs.Reached.{ReachedWords, state_at}
 use Rattle.xp_protocol.specs.Rules.{Can, op_of, row_of, owner}
 use Rattle.xp_protocol.specs.Runs.{MayStep, MayMake}
 use Rattle.xp_protocol.specs.State.{State, Life, Up, Contact, Peer, peer_of}
 use Rattle.xp_protocol.proofs.Undo.{within, owner_low}
-use Rattle.xp_meetings.proofs.Always.{at_one, one_here, rule_at, does_rule, answer_word}
+use Rattle.xp_meetings.proofs.Always.{at_one, one_here, rule_at, does_rule}
 use Rattle.xp_meetings.proofs.Meets.{PairAt, peer_cases}
 use Rattle.xp_meetings.proofs.Parts.{Part, part_ruled, part_step, step_same}
-use Rattle.xp_meetings.proofs.Ties.{Known, word_now, contact_by}
-use Rattle.xp_meetings.proofs.Touch.{touch, now, session_back, word_back}
+use Rattle.xp_meetings.proofs.Touch.{touch, word_back}
 use Rattle.xp_meetings.proofs.Words.{Words, Agrees, agrees}
 use Rattle.xp_promises.proofs.Before.{Before, is_part, part_at, at_step, split, memory-append}
-use Rattle.xp_invariants.specs.Between.{ArePartners, word_after, engage_at}
+use Rattle.xp_invariants.specs.Between.{ArePartners, word_after}
 use Rattle.xp_invariants.specs.Sessions.{Opens, session_opened, Sessions}
 use Rattle.xp_invariants.proofs.Onward.{next, step_state, onward, turn_done, acts_done}
 use Rattle.xp_invariants.proofs.Rising.{latest, HighAt, Risen, high_act, high_rule, high_failed, high_moment}

@@ -1,13 +1,11 @@
 -- Guest and host of every two partitions after every history: what is kept by each act, each step and each moment.
-use Rattle.std.proofs.Common.{◌≡◌, ℕ, ◌<◌, Bool, true, false, cond, eqb, List, [], ◌∷◌, ◌++◌, length, refl, ap, sym, ◌∙◌, subst, arith, Option, Some, inl, inr, ◌⊎◌}
+use Rattle.std.proofs.Common.{◌≡◌, ℕ, ◌<◌, Bool, true, false, cond, List, [], ◌∷◌, ◌++◌, length, refl, sym, ◌∙◌, subst, inl, inr, ◌⊎◌}
 use Rattle.std.specs.Prelude.{is_some, ◌&&◌, not}
 use Rattle.std.proofs.lemmas.Bool.{cases_eq, ne_eqb}
-use Rattle.xp_base.specs.declared.layout.TheConstants.{PARTS, FIRST, SECOND}
+use Rattle.xp_base.specs.declared.layout.TheConstants.{SECOND}
 use Rattle.xp_base.specs.declared.step.Answer.TheVariants.{Word, Failed}
-use Rattle.xp_base.specs.declared.step.Answer.{Answer}
 use Rattle.xp_base.specs.Memory.{Memory}
 use Rattle.xp_base.specs.History.{Act, Turn, Event, Turned, Legal, turns_of}
-use Rattle.xp_base.specs.Places.{Place, IsWithin, index_of}
 use Rattle.xp_script.specs.declared.part.Link.{Link as ScriptLink}
 use Rattle.xp_script.specs.declared.scenario.Scenario.{Scenario}
 use Rattle.xp_script.specs.Lawful.{IsLawful}
@@ -16,17 +14,15 @@ use Rattle.xp_script.specs.Parts.{part_of, links_of}
 use Rattle.xp_protocol.specs.declared.rule.Rule.{Rule}
 use Rattle.xp_protocol.specs.Parts.{IsLawfulPart}
 use Rattle.xp_protocol.specs.Peering.{is_copied}
-use Rattle.xp_protocol.specs.Promised.{memory_by, word_of}
+use Rattle.xp_protocol.specs.Promised.{memory_by}
 use Rattle.xp_protocol.specs.Reached.{ReachedWords, state_at}
 use Rattle.xp_protocol.specs.Rules.{Can}
-use Rattle.xp_protocol.specs.Acts.{MayAct}
 use Rattle.xp_protocol.specs.Runs.{turned, restart_comes, stop_comes, is_over}
-use Rattle.xp_protocol.specs.State.{State, Life, End, Contact, Peer, opening_life, opening_stamp, opened_state, end_of, peer_of}
+use Rattle.xp_protocol.specs.State.{End, opening_life, opened_state, end_of, peer_of}
 use Rattle.xp_protocol.proofs.LawfulParts.{lawful_part}
 use Rattle.xp_protocol.proofs.Opened.{opened_fact}
 use Rattle.xp_meetings.proofs.Always.{at_one, one_here, does_rule, answer_word}
-use Rattle.xp_meetings.proofs.Firsts.{Posture, posture, warm_posture, base_posture, start_at, first_six, six_first, met_first}
-use Rattle.xp_meetings.proofs.Meets.{Met}
+use Rattle.xp_meetings.proofs.Firsts.{Posture, warm_posture, base_posture, start_at, six_first, met_first}
 use Rattle.xp_meetings.proofs.Opening.{opening_words, is_linked}
 use Rattle.xp_meetings.proofs.Parts.{Part, part_opened, part_start, part_act, part_ruled, part_moment, from_state}
 use Rattle.xp_meetings.proofs.Six.{Six, six}

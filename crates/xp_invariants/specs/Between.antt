@@ -1,5 +1,5 @@
 -- What is read of two partitions after a history.
-use Rattle.std.specs.Prelude.{◌≡◌, ℕ, ◌<◌, List, Option, Some}
+use Rattle.std.specs.Prelude.{◌≡◌, ℕ, ◌<◌, List, Some}
 use Rattle.std.specs.Int.{bit_at}
 use Rattle.xp_base.specs.History.{Event, Marked, Turn}
 use Rattle.xp_base.specs.Places.{Place}
@@ -10,7 +10,7 @@ use Rattle.xp_protocol.specs.declared.rule.Rule.{Rule}
 use Rattle.xp_protocol.specs.Decode.{rule_of}
 use Rattle.xp_protocol.specs.Promised.{engaged_at, known_acted, memory_by, word_of}
 use Rattle.xp_protocol.specs.Reached.{state_at}
-use Rattle.xp_protocol.specs.State.{Engage, Life, Up, peer_of}
+use Rattle.xp_protocol.specs.State.{Engage, Up, peer_of}
 
 -- two partitions of the scenario
 pub record ArePartners (s : Scenario) (p q : ℕ) : Type 0 where

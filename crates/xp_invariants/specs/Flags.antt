@@ -1,9 +1,9 @@
 -- The queue of control flags from an end to its partner's: each flag that was sent is in one place,
 -- in the partner's word, taken and not handled, or handled; and its argument is the one that was
 -- stored for it.
-use Rattle.std.specs.Prelude.{◌≡◌, ℕ, ◌+◌, ◌≤◌, ◌⊎◌, Bool, true, false, ◌||◌, is_some, List, Some, None}
+use Rattle.std.specs.Prelude.{◌≡◌, ℕ, ◌+◌, ◌≤◌, Bool, true, false, ◌||◌, is_some, List, Some, None}
 use Rattle.xp_base.specs.declared.link.Kind.{Kind}
-use Rattle.xp_base.specs.declared.link.Kind.TheVariants.{CloseRequest, CloseReply, OpenRequest, OpenReply, MsgRequest}
+use Rattle.xp_base.specs.declared.link.Kind.TheVariants.{CloseReply, MsgRequest}
 use Rattle.xp_base.specs.Kinds.{Kinds, has, kinds_in}
 use Rattle.xp_base.specs.History.{Event}
 use Rattle.xp_base.specs.Places.{Flag, Args, Entry, index_of}

@@ -11,7 +11,7 @@ use Rattle.xp_protocol.specs.declared.rule.Rule.TheVariants.{Peer}
 use Rattle.xp_protocol.specs.Peering.{is_copied, read_place}
 use Rattle.xp_protocol.specs.Promised.{known_acted}
 use Rattle.xp_protocol.specs.Reached.{state_at}
-use Rattle.xp_protocol.specs.State.{Area, Old, Off, Ready, Leaving, end_of, peer_of}
+use Rattle.xp_protocol.specs.State.{Area, Off, Ready, Leaving, end_of, peer_of}
 use Rattle.xp_invariants.specs.Between.{ArePartners, HasBooted, IsStepBy, word_after, bit_after, engage_at}
 
 -- the magic of the own record for a partner: none but in an area that is open to it
