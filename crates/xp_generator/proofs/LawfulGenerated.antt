@@ -178,7 +178,7 @@ at_end [] y (suc i) e = absurd (omega (arith, e))
 at_end (x ∷ xs) y zero e = absurd (omega (arith, e))
 at_end (x ∷ xs) y (suc i) e = at_end xs y i (omega (arith, e))
 
-script_at : (n count m p : ℕ) → p < m → get_or (scripts_of n count m) p [] ≡ script_of n count p ∷ []
+pub script_at : (n count m p : ℕ) → p < m → get_or (scripts_of n count m) p [] ≡ script_of n count p ∷ []
 script_at n count zero p lt = absurd (omega arith)
 script_at n count (suc m) p lt =
     let len = scripts_length n count m in

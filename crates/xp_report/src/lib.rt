@@ -1,5 +1,5 @@
 //! The report: how each partition stands, what its commands were answered, and what came of its
-//! connections.
+//! connections; and the summary of them.
 #![tactic(auto)]
 
 pub mod answers;
@@ -7,4 +7,5 @@ pub mod device;
 pub mod head;
 pub mod links;
 pub mod log;
+pub mod summary;
 pub mod text;

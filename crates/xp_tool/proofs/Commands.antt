@@ -6,15 +6,16 @@ use Rattle.xp_scenario.specs.declared.fault.ScenarioFault.{ScenarioFault}
 use Rattle.xp_scenario.specs.declared.fault.ScenarioFault.TheVariants as faults
 use Rattle.xp_scenario.specs.Text.{scenario_in}
 use Rattle.xp_tool.specs.declared.command.ToolCommand.{ToolCommand}
-use Rattle.xp_tool.specs.declared.command.ToolCommand.TheVariants.{Replay, Dump, Decode}
+use Rattle.xp_tool.specs.declared.command.ToolCommand.TheVariants.{Replay, Dump, Decode, Gen, Big}
 use Rattle.xp_tool.specs.declared.product.Product.{Product}
-use Rattle.xp_tool.specs.declared.product.Product.TheVariants.{Replayed, Told}
+use Rattle.xp_tool.specs.declared.product.Product.TheVariants.{Replayed, Told, Generated}
 use Rattle.xp_tool.specs.declared.status.InputFault.{InputFault}
 use Rattle.xp_tool.specs.declared.status.InputFault.TheVariants.{BadLine, TooMany, Unbuilt, Page, Trailing}
 use Rattle.xp_base.specs.Memory.{Memory}
 use Rattle.xp_page.specs.Reading.{word_in}
 use Rattle.xp_dump.specs.Grammar.{IsDump, word_allowed}
-use Rattle.xp_tool.specs.Command.{Does, IsReplay, IsTold, IsRefused, IsNoScenario, IsNoDump, LeavesWorld, end_of}
+use Rattle.xp_generator.specs.Generated.{generated}
+use Rattle.xp_tool.specs.Command.{Does, IsReplay, IsTold, IsGenerated, IsGeneratedReplay, IsRefused, IsNoScenario, IsNotBuilt, IsNoDump, LeavesWorld, end_of}
 
 abbrev Spelled : Type 0
 Spelled = Result Scenario ScenarioFault
@@ -33,10 +34,11 @@ replay_good input (Replayed world) (TooMany what limit) d r =
     absurd (no_both d.scenario (faults.TooMany what limit) (scenario_in input) d.spelled r)
 replay_good input (Replayed world) Unbuilt d r =
     let same : d.scenario ≡ r.scenario = same_ok d.scenario r.scenario (scenario_in input) (scenario_in input) d.spelled r.spelled refl in
-    r.unbuilt (subst (λ (s : Scenario). IsBuilt s) same d.built)
+    r.unbuilt (subst (λ (s : Scenario). IsBuilt s) same d.leads.built)
 replay_good input (Replayed world) (Page fault) d r = r
 replay_good input (Replayed world) (Trailing offset) d r = r
 replay_good input (Told words) fault d r = absurd d
+replay_good input (Generated scenario) fault d r = absurd d
 
 both_ways : (b : Bool) → b ≡ true → b ≡ false → ⊥
 both_ways true e f = cc
@@ -55,23 +57,50 @@ dump_good input words (Trailing offset) d r = let past = r.past in let whole = d
 told_good : (input : List ℕ) (made : Product) (fault : InputFault) → IsTold input made → IsNoDump input fault → ⊥
 told_good input (Replayed world) fault d r = d
 told_good input (Told words) fault d r = dump_good input words fault d r
+told_good input (Generated scenario) fault d r = d
+
+-- a number whose scenario was replayed has no fault
+big_good : (n : ℕ) (made : Product) (fault : InputFault) → IsGeneratedReplay n made → IsNotBuilt (generated n) fault → ⊥
+big_good n (Replayed world) (BadLine line column cause) d r = r
+big_good n (Replayed world) (TooMany what limit) d r = r
+big_good n (Replayed world) Unbuilt d r = r d.built
+big_good n (Replayed world) (Page fault) d r = r
+big_good n (Replayed world) (Trailing offset) d r = r
+big_good n (Told words) fault d r = d
+big_good n (Generated scenario) fault d r = d
 
 -- what is done of an input isn't refused
 pub done_good : (c : ToolCommand) (input : List ℕ) (made : Product) (fault : InputFault) → Does c input made → IsRefused c input fault → ⊥
 done_good Replay input made fault d r = replay_good input made fault d r
 done_good Dump input made fault d r = replay_good input made fault d r
 done_good Decode input made fault d r = told_good input made fault d r
+done_good (Gen n) input made fault d r = r
+done_good (Big n) input made fault d r = big_good n made fault d r
 
 replay_leaves : (input : List ℕ) (made : Product) → IsReplay input made → IsSome (end_of made)
 replay_leaves input (Replayed world) d = refl
 replay_leaves input (Told words) d = absurd d
+replay_leaves input (Generated scenario) d = absurd d
 
 told_leaves : (input : List ℕ) (made : Product) → IsTold input made → IsSome (end_of made) → ⊥
 told_leaves input (Replayed world) d e = d
 told_leaves input (Told words) d e = cc
+told_leaves input (Generated scenario) d e = d
+
+gen_leaves : (n : ℕ) (made : Product) → IsGenerated n made → IsSome (end_of made) → ⊥
+gen_leaves n (Replayed world) d e = d
+gen_leaves n (Told words) d e = d
+gen_leaves n (Generated scenario) d e = cc
+
+big_leaves : (n : ℕ) (made : Product) → IsGeneratedReplay n made → IsSome (end_of made)
+big_leaves n (Replayed world) d = refl
+big_leaves n (Told words) d = absurd d
+big_leaves n (Generated scenario) d = absurd d
 
 -- what is done leaves a world where its command leaves one
 pub leaves : (c : ToolCommand) (input : List ℕ) (made : Product) → Does c input made → IsSome (end_of made) ↔ LeavesWorld c
 leaves Replay input made d = ((λ x. tt), λ x. replay_leaves input made d)
 leaves Dump input made d = ((λ x. tt), λ x. replay_leaves input made d)
 leaves Decode input made d = ((λ x. told_leaves input made d x), λ x. absurd x)
+leaves (Gen n) input made d = ((λ x. gen_leaves n made d x), λ x. absurd x)
+leaves (Big n) input made d = ((λ x. tt), λ x. big_leaves n made d)

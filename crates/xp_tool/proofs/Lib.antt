@@ -1,3 +1,5 @@
 pub mod WordLemmas
+pub mod NumberLemmas
 pub mod Commands
+pub mod Unbuilt
 pub mod Outcomes

@@ -3,16 +3,19 @@ use Rattle.std.specs.Prelude.{◌≡◌, ℕ, ◌⊎◌, List, [], Bool, true, O
 use Rattle.xp_dump.specs.Grammar.{dump_bytes, IsDump, IsPast, IsCut}
 use Rattle.xp_dump.specs.Grammar.{IsRefused as HasBadWord}
 use Rattle.xp_listing.specs.Listing.{listing_of}
+use Rattle.xp_generator.specs.Generated.{generated}
+use Rattle.xp_print.specs.Text.{text_of as printed}
 use Rattle.xp_script.specs.declared.scenario.Scenario.{Scenario}
 use Rattle.xp_script.specs.Built.{IsBuilt}
 use Rattle.xp_report.specs.Report.{report_of}
+use Rattle.xp_report.specs.Summary.{summary_of}
 use Rattle.xp_scenario.specs.declared.fault.ScenarioFault.TheVariants as faults
 use Rattle.xp_scenario.specs.Text.{scenario_in}
 use Rattle.xp_world.specs.declared.world.World.{World}
 use Rattle.xp_world.specs.World.{Replayed, IsReady}
 use Rattle.xp_tool.specs.declared.command.TheConstants.{SCENARIO_LIMIT, DUMP_LIMIT}
 use Rattle.xp_tool.specs.declared.command.ToolCommand.{ToolCommand}
-use Rattle.xp_tool.specs.declared.command.ToolCommand.TheVariants.{Replay, Dump, Decode}
+use Rattle.xp_tool.specs.declared.command.ToolCommand.TheVariants.{Replay, Dump, Decode, Gen, Big}
 use Rattle.xp_tool.specs.declared.product.Product.{Product}
 use Rattle.xp_tool.specs.declared.product.Product.TheVariants as product
 use Rattle.xp_tool.specs.declared.status.InputFault.{InputFault}
@@ -23,20 +26,36 @@ abbrev pub is_plain : ToolCommand → Bool
 is_plain Replay = true
 is_plain Dump = true
 is_plain Decode = true
+is_plain (Gen n) = true
+is_plain (Big n) = true
 
 -- how many bytes the command reads at most; none where it reads nothing
 abbrev pub limit_of : ToolCommand → Option ℕ
 limit_of Replay = Some SCENARIO_LIMIT
 limit_of Dump = Some SCENARIO_LIMIT
 limit_of Decode = Some DUMP_LIMIT
+limit_of (Gen n) = None
+limit_of (Big n) = None
+
+-- the rules of today can run the scenario, and the world is what its replay leaves
+pub record Leads (scenario : Scenario) (world : World) : Type 0 where
+  pub built : IsBuilt scenario
+  pub replayed : Replayed scenario world
+  pub ready : IsReady world
+
+-- the rules of today can't run the scenario, and this fault says so
+abbrev pub IsNotBuilt : Scenario → InputFault → Type 0
+IsNotBuilt scenario (BadLine line column cause) = ⊥
+IsNotBuilt scenario (TooMany what limit) = ⊥
+IsNotBuilt scenario Unbuilt = IsBuilt scenario → ⊥
+IsNotBuilt scenario (Page fault) = ⊥
+IsNotBuilt scenario (Trailing offset) = ⊥
 
 -- the input spells a scenario, and the world is what its replay leaves
 pub record Replays (input : List ℕ) (world : World) : Type 0 where
   pub scenario : Scenario
   pub spelled : scenario_in input ≡ Ok scenario
-  pub built : IsBuilt scenario
-  pub replayed : Replayed scenario world
-  pub ready : IsReady world
+  pub leads : Leads scenario world
 
 -- the input spells a scenario that the rules of today can't run
 pub record IsUnbuilt (input : List ℕ) : Type 0 where
@@ -67,39 +86,60 @@ abbrev pub IsRefused : ToolCommand → List ℕ → InputFault → Type 0
 IsRefused Replay input fault = IsNoScenario input fault
 IsRefused Dump input fault = IsNoScenario input fault
 IsRefused Decode input fault = IsNoDump input fault
+IsRefused (Gen n) input fault = ⊥
+IsRefused (Big n) input fault = IsNotBuilt (generated n) fault
 
 -- this is a world that the input's scenario leads to
 abbrev pub IsReplay : List ℕ → Product → Type 0
 IsReplay input (product.Replayed world) = Replays input world
 IsReplay input (product.Told words) = ⊥
+IsReplay input (product.Generated scenario) = ⊥
 
 -- these are the words that the input tells as a dump
 abbrev pub IsTold : List ℕ → Product → Type 0
 IsTold input (product.Replayed world) = ⊥
 IsTold input (product.Told words) = IsDump input words
+IsTold input (product.Generated scenario) = ⊥
+
+-- this is the scenario of the number
+abbrev pub IsGenerated : ℕ → Product → Type 0
+IsGenerated n (product.Replayed world) = ⊥
+IsGenerated n (product.Told words) = ⊥
+IsGenerated n (product.Generated scenario) = scenario ≡ generated n
+
+-- this is a world that the scenario of the number leads to
+abbrev pub IsGeneratedReplay : ℕ → Product → Type 0
+IsGeneratedReplay n (product.Replayed world) = Leads (generated n) world
+IsGeneratedReplay n (product.Told words) = ⊥
+IsGeneratedReplay n (product.Generated scenario) = ⊥
 
 -- what the command makes of its input
 abbrev pub Does : ToolCommand → List ℕ → Product → Type 0
 Does Replay input made = IsReplay input made
 Does Dump input made = IsReplay input made
 Does Decode input made = IsTold input made
+Does (Gen n) input made = IsGenerated n made
+Does (Big n) input made = IsGeneratedReplay n made
 
 -- the text that the command writes of it; none of what another command makes
 abbrev pub text_of : ToolCommand → Product → List ℕ
 text_of Replay (product.Replayed world) = report_of world.nodes.items
-text_of Replay (product.Told words) = []
 text_of Dump (product.Replayed world) = dump_bytes world.words
-text_of Dump (product.Told words) = []
-text_of Decode (product.Replayed world) = []
 text_of Decode (product.Told words) = listing_of words
+text_of (Gen n) (product.Generated scenario) = printed scenario
+text_of (Big n) (product.Replayed world) = summary_of n world.nodes.items
+text_of command made = []
 
 -- the world that is left of it
 abbrev pub end_of : Product → Option World
 end_of (product.Replayed world) = Some world
 end_of (product.Told words) = None
+end_of (product.Generated scenario) = None
 
 -- the command leaves a world
 abbrev pub LeavesWorld : ToolCommand → Type 0
 LeavesWorld Replay = Unit {0}
 LeavesWorld Dump = Unit {0}
 LeavesWorld Decode = ⊥
+LeavesWorld (Gen n) = ⊥
+LeavesWorld (Big n) = Unit {0}

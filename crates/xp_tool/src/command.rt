@@ -11,6 +11,10 @@ pub enum ToolCommand {
     Dump,
     /// Reads a dump, and writes its listing.
     Decode,
+    /// Writes the text of the scenario that is made from a number.
+    Gen { n: u32 },
+    /// Replays the scenario that is made from a number, and writes its summary.
+    Big { n: u32 },
 }
 
 /// How many bytes a scenario has at most.
@@ -24,7 +28,11 @@ impl ToolCommand {
         ensures { result ≡ is_plain self.now }
     {
         match self {
-            ToolCommand::Replay | ToolCommand::Dump | ToolCommand::Decode => true,
+            ToolCommand::Replay
+            | ToolCommand::Dump
+            | ToolCommand::Decode
+            | ToolCommand::Gen { .. }
+            | ToolCommand::Big { .. } => true,
         }
     }
 
@@ -35,6 +43,7 @@ impl ToolCommand {
         match self {
             ToolCommand::Replay | ToolCommand::Dump => Some(SCENARIO_LIMIT),
             ToolCommand::Decode => Some(DUMP_LIMIT),
+            ToolCommand::Gen { .. } | ToolCommand::Big { .. } => None,
         }
     }
 }

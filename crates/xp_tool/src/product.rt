@@ -1,10 +1,10 @@
 // What a command makes of its input, before anything is written.
-ghost use Rattle.std.specs.Prelude.{◌≡◌, IfOk, IfErr, Ok};
+ghost use Rattle.std.specs.Prelude.{◌≡◌, ℕ, List, IfOk, IfErr, Ok};
 ghost use Rattle.xp_dump.specs.Grammar.{IsDump};
-ghost use Rattle.xp_script.specs.Built.{IsBuilt};
+ghost use Rattle.xp_generator.specs.Generated.{generated};
 ghost use Rattle.xp_script.specs.Lawful.{IsLawful};
 ghost use Rattle.xp_scenario.specs.Text.{scenario_in};
-ghost use Rattle.xp_tool.specs.Command.{end_of, IsNoDump, IsNoScenario, Replays};
+ghost use Rattle.xp_tool.specs.Command.{end_of, IsNoDump, IsNoScenario, IsNotBuilt, Leads, Replays};
 ghost use Rattle.xp_tool.specs.Made.{IsMade, IsUnmade, IsUnmadeBy, dump_refusal_of, refusal_of};
 
 use crate::command::ToolCommand;
@@ -12,20 +12,25 @@ use crate::status::{InputFault, Status};
 use std::alloc::Global;
 use xp_base::words::Words;
 use xp_dump::{DumpFault, Reader, dump, listing};
+use xp_generator::generator::generate;
 use xp_lawful::built::is_built;
+use xp_print::text::print;
+use xp_report::summary::summary;
 use xp_report::text::report;
 use xp_scenario::fault::ScenarioFault;
 use xp_scenario::text::parse;
 use xp_script::scenario::Scenario;
 use xp_world::world::World;
 
-/// What a command made of its input.
+/// What a command made of its input, or of its number.
 #[derive(Drop)]
 pub enum Product {
     /// The world that a scenario's replay left.
     Replayed(World),
     /// The words that a dump tells.
     Told(Words),
+    /// The scenario of a number.
+    Generated(Scenario),
 }
 
 impl Product {
@@ -35,7 +40,7 @@ impl Product {
     {
         match self {
             Product::Replayed(world) => Some(world),
-            Product::Told(_) => None,
+            Product::Told(_) | Product::Generated(_) => None,
         }
     }
 }
@@ -56,24 +61,35 @@ pub fn make(alloc: Global, command: ToolCommand, input: &[u8]) -> Result<Made, S
         ToolCommand::Replay => report_replay(alloc, input),
         ToolCommand::Dump => dump_replay(alloc, input),
         ToolCommand::Decode => decode(alloc, input),
+        ToolCommand::Gen { n } => print_generated(alloc, n),
+        ToolCommand::Big { n } => summarize_generated(alloc, n),
     }
 }
 
-// The scenario that an input spells, where the rules of today can run it.
-fn scenario(alloc: Global, input: &[u8]) -> Result<Scenario, Status>
+// The scenario that an input spells.
+fn spelled(alloc: Global, input: &[u8]) -> Result<Scenario, Status>
     ensures spelled { IfOk result (λ scenario. scenario_in input.now ≡ Ok scenario) }
     ensures lawful { IfOk result (λ scenario. IsLawful scenario) }
-    ensures built { IfOk result (λ scenario. IsBuilt scenario) }
     ensures unmade { IfErr result (λ status. IsUnmadeBy (IsNoScenario input.now) status) }
 {
-    let scenario = match parse(alloc, input) {
-        Ok(scenario) => scenario,
-        Err(fault) => return Err(refusal(fault)),
-    };
-    if is_built(&scenario) {
-        Ok(scenario)
-    } else {
-        Err(Status::BadInput(InputFault::Unbuilt))
+    match parse(alloc, input) {
+        Ok(scenario) => Ok(scenario),
+        Err(fault) => Err(refusal(fault)),
+    }
+}
+
+// The world that a scenario leads to, where the rules of today can run it.
+fn lead(alloc: Global, scenario: &Scenario) -> Result<World, Status>
+    requires { IsLawful scenario.now }
+    ensures leads { IfOk result (λ world. Leads scenario.now world) }
+    ensures unmade { IfErr result (λ status. IsUnmadeBy (IsNotBuilt scenario.now) status) }
+{
+    if !is_built(scenario) {
+        return Err(Status::BadInput(InputFault::Unbuilt));
+    }
+    match World::replay(alloc, scenario) {
+        Ok(world) => Ok(world),
+        Err(_) => Err(Status::NoMemory),
     }
 }
 
@@ -103,11 +119,8 @@ fn replay(alloc: Global, input: &[u8]) -> Result<World, Status>
     ensures replays { IfOk result (λ world. Replays input.now world) }
     ensures unmade { IfErr result (λ status. IsUnmadeBy (IsNoScenario input.now) status) }
 {
-    let scenario = scenario(alloc, input)?;
-    match World::replay(alloc, &scenario) {
-        Ok(world) => Ok(world),
-        Err(_) => Err(Status::NoMemory),
-    }
+    let scenario = spelled(alloc, input)?;
+    lead(alloc, &scenario)
 }
 
 // Replays the scenario that an input spells, and makes its report.
@@ -179,6 +192,49 @@ fn decode(alloc: Global, input: &[u8]) -> Result<Made, Status>
         Ok(lines) => Ok(Made {
             product: Product::Told(words),
             text: lines,
+        }),
+        Err(_) => Err(Status::NoMemory),
+    }
+}
+
+// The scenario of a number.
+fn numbered_scenario(alloc: Global, n: u32) -> Result<Scenario, Status>
+    ensures generated { IfOk result (λ scenario. scenario ≡ generated n) }
+    ensures lawful { IfOk result (λ scenario. IsLawful scenario) }
+    ensures unmade { IfErr result (λ status. status ≡ Status.NoMemory) }
+{
+    match generate(alloc, n) {
+        Ok(scenario) => Ok(scenario),
+        Err(_) => Err(Status::NoMemory),
+    }
+}
+
+// Makes the scenario of a number, and its text.
+fn print_generated(alloc: Global, n: u32) -> Result<Made, Status>
+    ensures made { IfOk result (λ made. (input : List ℕ) → IsMade (ToolCommand.Gen n) input made) }
+    ensures unmade { IfErr result (λ status. status ≡ Status.NoMemory) }
+{
+    let scenario = numbered_scenario(alloc, n)?;
+    match print(alloc, &scenario) {
+        Ok(text) => Ok(Made {
+            product: Product::Generated(scenario),
+            text,
+        }),
+        Err(_) => Err(Status::NoMemory),
+    }
+}
+
+// Replays the scenario of a number, and makes the summary of the world that it leads to.
+fn summarize_generated(alloc: Global, n: u32) -> Result<Made, Status>
+    ensures made { IfOk result (λ made. (input : List ℕ) → IsMade (ToolCommand.Big n) input made) }
+    ensures unmade { IfErr result (λ status. IsUnmadeBy (IsNotBuilt (generated n)) status) }
+{
+    let scenario = numbered_scenario(alloc, n)?;
+    let world = lead(alloc, &scenario)?;
+    match summary(alloc, n, &world.nodes) {
+        Ok(text) => Ok(Made {
+            product: Product::Replayed(world),
+            text,
         }),
         Err(_) => Err(Status::NoMemory),
     }

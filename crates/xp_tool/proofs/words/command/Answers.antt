@@ -9,7 +9,7 @@ pub returns-then-has_flag : goal.returns-then-has_flag
 returns-then-has_flag c = sym (flagged (map string_bytes c.args.words.now) (sym c.has_flag.ensures ∙ c.if-has_flag.true))
 
 pub returns-in-Ok : goal.returns-in-Ok
-returns-in-Ok c = c.named.ensures ∙ parsed (app_of c.in_ok-grammar.field-0) (map string_bytes c.args.words.now) c.in-Ok.matches c.in_ok-grammar.ensures (sym c.has_flag.ensures ∙ c.if-has_flag.false) c.in-Ok.ensures.kinds c.in-Ok.ensures.matches
+returns-in-Ok c = c.met.ensures ∙ parsed (app_of c.in_ok-grammar.field-0) (map string_bytes c.args.words.now) c.in-Ok.matches c.in_ok-grammar.ensures (sym c.has_flag.ensures ∙ c.if-has_flag.false) c.in-Ok.ensures.kinds c.in-Ok.ensures.matches
 
 pub returns-in-Err-2 : goal.returns-in-Err-2
 returns-in-Err-2 c =
