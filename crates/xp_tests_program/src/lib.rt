@@ -12,6 +12,8 @@ mod node;
 #[cfg(test)]
 mod parts;
 #[cfg(test)]
+mod printed;
+#[cfg(test)]
 mod report;
 #[cfg(test)]
 mod scenario;
