@@ -8,3 +8,6 @@ pub mod Signals
 pub mod Polls
 pub mod Copies
 pub mod Serving
+pub mod Kept
+pub mod Takes
+pub mod Leaves

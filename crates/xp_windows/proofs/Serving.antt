@@ -1,28 +1,32 @@
 -- In each window what is owed is served.
-use Rattle.std.proofs.Common.{◌≡◌, ℕ, ◌+◌, ◌*◌, ◌<◌, ◌≤◌, Bool, true, false, List, [], ◌∷◌, ◌++◌, length, refl, sym, subst, arith, inl}
-use Rattle.std.specs.Prelude.{IsSome, nat_lt, nat_eq, ◌||◌, if◌then◌else◌}
+use Rattle.std.proofs.Common.{◌≡◌, ℕ, ◌+◌, ◌*◌, ◌<◌, ◌≤◌, Bool, true, false, List, [], ◌∷◌, ◌++◌, length, refl, sym, subst, arith, inl, Some}
+use Rattle.std.specs.Prelude.{IsSome, ◌-◌, nat_lt, nat_eq, ◌||◌, if◌then◌else◌}
 use Rattle.std.proofs.lemmas.Bool.{or_left}
 use Rattle.std.proofs.lemmas.Bool.Decides.{nat_tests}
 use Rattle.xp_base.specs.declared.layout.TheConstants.{PARTS, WINDOW_PARTS, WINDOW_TURNS, WINDOW_TURNS_EACH}
 use Rattle.xp_base.specs.Windows.{window_of}
 use Rattle.xp_base.specs.History.{Turn}
+use Rattle.xp_script.specs.declared.command.Command.TheVariants.{Take}
 use Rattle.xp_script.specs.declared.part.ScenarioPart.{ScenarioPart}
 use Rattle.xp_rounds.specs.declared.rounds.TheConstants.{VISIT_TURNS}
 use Rattle.xp_rounds.specs.Visit.{Visit, planned}
 use Rattle.xp_rounds.proofs.Sources.{Paced, planned_paced}
-use Rattle.xp_protocol.specs.Parts.{IsLawfulPart, script_in}
+use Rattle.xp_protocol.specs.Parts.{IsLawfulPart, IsPeer, script_in}
 use Rattle.xp_protocol.specs.State.{State, Up}
-use Rattle.xp_protocol.specs.Acts.{due}
+use Rattle.xp_protocol.specs.Acts.{current, due}
+use Rattle.xp_protocol.proofs.Lawful.{lawful_command}
 use Rattle.xp_protocol.specs.Runs.{Runs, RunsFrom, start, after_turn, state_after}
 use Rattle.xp_plan.specs.declared.errand.Errand.{Errand}
 use Rattle.xp_plan.specs.Plan.{plan_of, IsVisit, first_visit}
 use Rattle.xp_plan.proofs.Visiting.{first_is, next_is}
-use Rattle.xp_windows.specs.Windows.{middle, begins, answers, IsUp, SomeTurn, Throughout, Owed, Windows}
+use Rattle.xp_windows.specs.Windows.{middle, begins, answers, IsUp, SomeTurn, Throughout, IsTaking, Owed, Windows}
 use Rattle.xp_windows.specs.Visited.{visit_after, FollowsFrom, ArePrompt, Visited}
 use Rattle.xp_windows.proofs.Places.{Turns, follows_plan, first_holds, placed, peer_placed}
 use Rattle.xp_windows.proofs.Throughout.{activations_taken, deactivations_taken, engagements_read, flags_taken, sends_made}
 use Rattle.xp_windows.proofs.Signals.{requests_made, gets_stored}
 use Rattle.xp_windows.proofs.Copies.{whole, copies_made}
+use Rattle.xp_windows.proofs.Takes.{takes_made}
+use Rattle.xp_windows.proofs.Leaves.{areas_closed, partners_told}
 
 -- turns that follow the plan, from some visit on
 record Going (s : ScenarioPart) (v : Visit Errand) (st : State) (ts : List Turn) : Type 0 where
@@ -73,6 +77,10 @@ first_answers : (s : ScenarioPart) (st : State) (window : List Turn) → 0 < len
 first_answers s st [] some p h = absurd (omega (arith, some))
 first_answers s st (t ∷ ts) some p h = inl (p.0.answers h)
 
+-- a lawful take is from a partner
+taken_peer : (s : ScenarioPart) (st : State) (q c : ℕ) (wait : Bool) → IsLawfulPart s → current s st ≡ Some (Take q c wait) → IsPeer s.part s.count q c
+taken_peer s st q c wait l e = lawful_command s st.clock.boots (st.script.begun - 1) (Take q c wait) l e
+
 owed : (s : ScenarioPart) (boot : ℕ) (st : State) (window : List Turn) → IsLawfulPart s → VISIT_TURNS * s.count + VISIT_TURNS + 1 < length window → Throughout (IsUp boot) s st window → Window s st window → Owed s st window
 owed s boot st window l long up w =
     let x = w.turns in
@@ -90,6 +98,9 @@ owed s boot st window l long up w =
       stores = λ q c p owes h. gets_stored boot s q c (peer_placed s q c l p) p.2 w.visit st window enough y h owes;
       copies = λ q c p owes h. copies_made boot s q c (peer_placed s q c l p) p.2 w.visit st window long y x.paced h owes;
       sends = λ q c payload wait notify h. sends_made s q c payload wait notify boot some w.visit st window enough y h;
+      closes = λ q p ready reason. areas_closed boot s q (placed s q l p) w.visit st window enough y ready reason;
+      tells = λ q p leaving bit told. partners_told boot s q (placed s q l p) w.visit st window enough y leaving bit told;
+      takes = λ q c wait h. let p = taken_peer s st q c wait l (first_holds (IsTaking s q c wait) s st window h).now in takes_made boot s q c wait some (peer_placed s q c l p) p.2 w.visit st window enough y h;
     }
 
 long_window : (count : ℕ) → count ≤ PARTS → VISIT_TURNS * count + VISIT_TURNS + 1 < window_of count

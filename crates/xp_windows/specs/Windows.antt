@@ -5,22 +5,24 @@ use Rattle.std.specs.Prelude.{◌≡◌, ℕ, ◌<◌, Bool, true, false, ◌||�
 use Rattle.xp_base.specs.History.{Act, Begun, Answered, Noticed, Marked, Turn}
 use Rattle.xp_base.specs.Windows.{window_of}
 use Rattle.xp_base.specs.declared.link.Kind.TheVariants.{MsgRequest}
-use Rattle.xp_script.specs.declared.command.Command.TheVariants.{Send}
+use Rattle.xp_script.specs.declared.command.Command.TheVariants.{Send, Take}
 use Rattle.xp_script.specs.declared.part.ScenarioPart.{ScenarioPart}
 use Rattle.xp_protocol.specs.declared.rule.LinkRule.{LinkRule}
 use Rattle.xp_protocol.specs.declared.rule.LinkRule.TheVariants.{Ring, Pull, Acknowledge, SetFlag}
-use Rattle.xp_protocol.specs.declared.rule.PullRule.TheVariants.{ReadCounters}
-use Rattle.xp_protocol.specs.declared.rule.PeerRule.TheVariants.{TakeFlags}
+use Rattle.xp_protocol.specs.declared.rule.PullRule.TheVariants.{ReadCounters, ReadEntry}
+use Rattle.xp_protocol.specs.declared.rule.PeerRule.{PeerRule}
+use Rattle.xp_protocol.specs.declared.rule.PeerRule.TheVariants.{TakeFlags, CloseArea, TellPartner}
 use Rattle.xp_protocol.specs.declared.rule.OwnRule.{OwnRule}
 use Rattle.xp_protocol.specs.declared.rule.OwnRule.TheVariants.{TakeActivation, TakeDeactivation, ReadEngaged}
 use Rattle.xp_protocol.specs.declared.rule.Rule.{Rule}
 use Rattle.xp_protocol.specs.declared.rule.Rule.TheVariants.{Link, Peer as ForPeer, Own}
 use Rattle.xp_protocol.specs.Parts.{IsPeer, script_in}
-use Rattle.xp_protocol.specs.State.{State, Up, Ready, End, end_of, peer_of, is_connected}
+use Rattle.xp_protocol.specs.State.{State, Up, Ready, Leaving, End, end_of, peer_of, is_connected}
 use Rattle.xp_protocol.specs.Rules.{IsPartner}
 use Rattle.xp_protocol.specs.Decode.{rule_of}
 use Rattle.xp_protocol.specs.Acts.{current, due, after_acts}
 use Rattle.xp_protocol.specs.Runs.{start, after_turn, state_after}
+use Rattle.xp_plan.specs.EndSteps.{has_entry}
 use Rattle.xp_plan.specs.PeerSteps.{any_left}
 
 -- some acts begin a command; they answer one
@@ -88,6 +90,13 @@ pub record IsSent (s : ScenarioPart) (q c : ℕ) (payload : List ℕ) (wait noti
   pub now : current s st ≡ Some (Send q c payload wait notify)
   pub goes_on : IsSome (end_of st q c).sides.send.send
 
+-- the script's take from an end goes on
+pub record IsTaking (s : ScenarioPart) (q c : ℕ) (wait : Bool) (st : State) : Type 0 where
+  pub channel : IsOpen q c st
+  pub doing : st.script.doing ≡ true
+  pub now : current s st ≡ Some (Take q c wait)
+  pub goes_on : IsSome (end_of st q c).sides.pull.take
+
 -- the own memory for a partner waits to be free
 abbrev pub IsLeft : ScenarioPart → State → Type 0
 IsLeft s st = any_left s.part 0 st.peers ≡ true
@@ -121,10 +130,21 @@ abbrev pub SendsOn : End → LinkRule → Type 0
 SendsOn e (Ring m) = Unit {0}
 SendsOn e m = ⊥
 
+-- a take loads a word of the next entry where the pulled put is above the count pulled, and else it
+-- loads the counters
+abbrev pub TakesOn : End → LinkRule → Type 0
+TakesOn e (Pull ReadEntry) = Unit {0}
+TakesOn e (Pull ReadCounters) = has_entry e.sides.pull ≡ false
+TakesOn e m = ⊥
+
 -- the flags of a partner are taken
 abbrev pub TakesFlags : ℕ → State → Rule → Type 0
 TakesFlags q st (ForPeer k TakeFlags) = k ≡ q
 TakesFlags q st r = ⊥
+
+-- a step for a partner
+abbrev pub IsFor : ℕ → PeerRule → State → Rule → Type 0
+IsFor q m st r = r ≡ ForPeer q m
 
 -- a step of the partition as a whole
 abbrev pub IsOwn : OwnRule → State → Rule → Type 0
@@ -155,6 +175,13 @@ pub record Owed (s : ScenarioPart) (st : State) (window : List Turn) : Type 0 wh
   pub sends : (q c : ℕ) (payload : List ℕ) (wait notify : Bool) →
       Throughout (IsSent s q c payload wait notify) s st window →
       SomeTurn (Steps (At q c SendsOn) s) s st window
+  pub takes : (q c : ℕ) (wait : Bool) → Throughout (IsTaking s q c wait) s st window →
+      SomeTurn (Steps (At q c TakesOn) s) s st window
+  pub closes : (q : ℕ) → IsPartner s q → (peer_of st q).engage.area ≡ Ready →
+      IsSome (peer_of st q).engage.reason → SomeTurn (Steps (IsFor q CloseArea) s) s st window
+  pub tells : (q : ℕ) → IsPartner s q → (peer_of st q).engage.area ≡ Leaving →
+      (peer_of st q).engage.bit ≡ true → (peer_of st q).engage.told ≡ false →
+      SomeTurn (Steps (IsFor q TellPartner) s) s st window
 
 -- in each window of consecutive turns of one boot what is owed is done
 abbrev pub Windows : ScenarioPart → List Turn → Type 0
