@@ -1,5 +1,5 @@
 -- The numbers that wait for a notice are told as ended one after the other, the lowest first.
-use Rattle.std.proofs.Common.{◌≡◌, ℕ, List, [], ◌∷◌, ◌++◌, Some, map, append_assoc, refl, ap, ◌∙◌, sym}
+use Rattle.std.proofs.Common.{◌≡◌, ℕ, List, [], ◌∷◌, ◌++◌, Some, map, append_assoc, ap, ◌∙◌}
 use Rattle.xp_protocol.specs.Acts.{first_number}
 use Rattle.xp_protocol.specs.Effects.{ToldOver, in_newest, with_notes}
 use Rattle.xp_protocol.specs.Records.{Recorded}

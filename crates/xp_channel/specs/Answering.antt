@@ -1,15 +1,14 @@
 -- The commands to an end, their answers, and its notices.
-use Rattle.std.specs.Prelude.{◌≡◌, ℕ, ◌≤◌, ◌<◌, ◌+◌, true, if◌then◌else◌, is_some, List, length, Option, Some, None, IsSome}
+use Rattle.std.specs.Prelude.{ℕ, ◌≤◌, List, length, Option, Some, None}
 use Rattle.xp_base.specs.declared.body.TheConstants.{SEND_BYTES}
 use Rattle.xp_base.specs.History.{NoticeKind}
 use Rattle.xp_script.specs.declared.command.Command.{Command}
 use Rattle.xp_script.specs.declared.command.Command.TheVariants.{Send as SendCommand, Register as RegisterCommand}
 use Rattle.xp_script.specs.declared.log.LogAnswer.{LogAnswer}
 use Rattle.xp_script.specs.declared.log.Verb.{Verb}
-use Rattle.xp_script.specs.declared.log.Verb.TheVariants.{Send as SendVerb, Take as TakeVerb, Release as ReleaseVerb, Drain as DrainVerb, Register as RegisterVerb, Unregister as UnregisterVerb, Connected as ConnectedVerb, Closed as ClosedVerb}
 use Rattle.xp_protocol.specs.Parts.{IsRequestSize}
 use Rattle.xp_protocol.specs.Effects.{Effect, Note, just}
-use Rattle.xp_protocol.specs.State.{End, is_connected, is_begun}
+use Rattle.xp_protocol.specs.State.{End}
 use Rattle.xp_protocol.specs.Acts.{due_by, answered_by, notice_due, end_noticed}
 
 -- a payload has at most `SEND_BYTES` bytes, and a size is one that may be registered

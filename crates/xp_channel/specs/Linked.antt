@@ -1,5 +1,5 @@
 -- The commands to one end, as those of a script, and their answers, as those of the log.
-use Rattle.std.specs.Prelude.{ℕ, List, Option, Some, None}
+use Rattle.std.specs.Prelude.{ℕ, Option, Some, None}
 use Rattle.xp_script.specs.declared.command.Command.{Command}
 use Rattle.xp_script.specs.declared.command.Command.TheVariants as commands
 use Rattle.xp_script.specs.declared.log.LogAnswer.{LogAnswer}

@@ -1,6 +1,6 @@
 -- The steps of an end: which comes next, by the kind of its work, as a rule and as it is wanted,
 -- and what becomes of the end when it is answered.
-use Rattle.std.specs.Prelude.{◌≡◌, ℕ, ◌&&◌, Bool, true, false, if◌then◌else◌, nat_lt, nat_eq, not, is_some, List, [], Option, Some, None, Result, Ok, Err, IsSome}
+use Rattle.std.specs.Prelude.{ℕ, ◌&&◌, Bool, false, if◌then◌else◌, nat_lt, nat_eq, not, is_some, List, [], Option, Some, None, Result, Ok, Err, IsSome}
 use Rattle.xp_base.specs.declared.step.Answer.{Answer}
 use Rattle.xp_base.specs.declared.step.Answer.TheVariants.{Word, Failed}
 use Rattle.xp_base.specs.declared.step.Wanted.{Wanted}

@@ -1,5 +1,5 @@
 -- The room that the calls of an end need, and what they leave of it.
-use Rattle.std.specs.Prelude.{◌≡◌, ℕ, ◌+◌, ◌-◌, ◌<◌, ◌≤◌, ◌^◌, ◌&&◌, ◌||◌, not, Bool, true, if◌then◌else◌, length, is_some, IsSome}
+use Rattle.std.specs.Prelude.{◌≡◌, ℕ, ◌+◌, ◌-◌, ◌<◌, ◌≤◌, ◌^◌, ◌&&◌, ◌||◌, not, Bool, true, if◌then◌else◌, length, IsSome}
 use Rattle.xp_base.specs.declared.layout.TheConstants.{LINES}
 use Rattle.xp_connections.specs.declared.record.TheConstants.{TURN_ROOM}
 use Rattle.xp_protocol.specs.Sending.{wants_notice}

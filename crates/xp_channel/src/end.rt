@@ -508,7 +508,8 @@ impl ChannelEnd {
 
     /// Whether no count of the end is near its type's end.
     pub fn is_countable(&self) -> bool
-        ensures { result ≡ true → IsCountable self.now.end }
+        ensures yes { result ≡ true → IsCountable self.now.end }
+        ensures no { IsCountable self.now.end → result ≡ true }
     {
         self.sides.put() < u64::MAX
             && self.sides.taken() < u64::MAX
@@ -518,7 +519,8 @@ impl ChannelEnd {
 
     /// Whether one more number may wait for a notice, where the send in progress asks for one.
     pub fn may_ask(&self) -> bool
-        ensures { result ≡ true → MayAsk self.now.end }
+        ensures yes { result ≡ true → MayAsk self.now.end }
+        ensures no { MayAsk self.now.end → result ≡ true }
     {
         !self.sides.asks()
             || (self.sides.pending_notices() as usize + self.ended.len()) < LINES as usize

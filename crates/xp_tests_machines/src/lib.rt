@@ -1,18 +1,14 @@
-//! Tests of the machines of a channel: its sending side, its receiving side, what was taken and not released, the two ends together,
-//! the rounds of a partition, and the plain data beside the rules.
+//! Tests of the machines over the whole protocol: the two sides of a channel, an end of one, a boot
+//! and a partner, and the rounds of a partition.
 #![tactic(auto)]
 
 #[cfg(test)]
-mod ack;
-#[cfg(test)]
-mod channel;
+mod ends;
 #[cfg(test)]
 mod partners;
 #[cfg(test)]
-mod pull;
-#[cfg(test)]
-mod ring;
+mod pull_side;
 #[cfg(test)]
 mod rounds;
 #[cfg(test)]
-mod rules;
+mod send_side;

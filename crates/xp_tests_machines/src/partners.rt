@@ -1,6 +1,6 @@
 // Two partitions that boot, find each other, make contact and part again, by the machines of a boot and of a partner
 // over the words of both.
-use crate::channel::perform;
+use crate::ends::perform;
 use std::test::Fail;
 use xp_base::ids::PartId;
 use xp_base::layout::{

@@ -337,7 +337,8 @@ impl ChannelEnd {
     /// Whether the step of a rule may be made: one more number may wait, where it accepts a message
     /// that asks for a notice.
     pub fn may_step(&self, rule: LinkRule) -> bool
-        ensures { result ≡ true → MayStep self.now.end rule }
+        ensures yes { result ≡ true → MayStep self.now.end rule }
+        ensures no { MayStep self.now.end rule → result ≡ true }
     {
         match rule {
             LinkRule::Ring(RingRule::AcceptMessage) => self.may_ask(),
@@ -355,7 +356,8 @@ impl ChannelEnd {
 
     /// The same of the step that `next` gives for a kind of work.
     pub fn may_feed(&self, work: Work) -> bool
-        ensures { result ≡ true → MayFeed self.now.end (end_plan work self.now.end) }
+        ensures yes { result ≡ true → MayFeed self.now.end (end_plan work self.now.end) }
+        ensures no { MayFeed self.now.end (end_plan work self.now.end) → result ≡ true }
     {
         match self.plan(work) {
             Some(rule) => self.may_step(rule),

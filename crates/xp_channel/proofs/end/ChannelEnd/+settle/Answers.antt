@@ -1,4 +1,4 @@
-use Rattle.std.proofs.Common.{◌-◌, ap, ◌∙◌, arith}
+use Rattle.std.proofs.Common.{◌-◌, ◌∙◌, arith}
 use Rattle.xp_channel.proofs.Settling.{settle_end, settle_reason}
 use Rattle.xp_channel.proofs.end.ChannelEnd.+settle.Goals as goal
 

@@ -113,7 +113,7 @@ fn done(kind: OpKind, word: u64) -> (u64, u64) {
     }
 }
 
-pub fn perform(words: &mut Words, op: Op) -> u64 {
+fn perform(words: &mut Words, op: Op) -> u64 {
     if op.owner.get() >= words.count() || op.index >= PART_WORDS {
         return 0;
     }
