@@ -4,3 +4,4 @@ pub mod EndsCan
 pub mod PeersCan
 pub mod Permits
 pub mod Visiting
+pub mod Examples

@@ -289,7 +289,7 @@ module _ (s : ScenarioPart) (st : State) (lawful : IsLawfulPart s) (h : IsSound 
     by false i = partner (nat_lt s.part k) refl i
 
 -- the errands of an agenda are of channels that there are
-agenda_errands : (x : Agenda) → AllByRecursion IsErrand (errands_of x)
+pub agenda_errands : (x : Agenda) → AllByRecursion IsErrand (errands_of x)
 agenda_errands agendas.Boot = (tt, tt)
 agenda_errands agendas.Own = (tt, (tt, (tt, (tt, (tt, tt)))))
 agenda_errands agendas.Apart = (tt, (tt, (tt, (tt, (tt, (tt, (tt, (tt, tt))))))))
