@@ -12,8 +12,6 @@ mod node;
 #[cfg(test)]
 mod parts;
 #[cfg(test)]
-mod printed;
-#[cfg(test)]
 mod report;
 #[cfg(test)]
 mod scenario;

@@ -123,7 +123,7 @@ fn silent_status(alloc: Global, words: &[Word], text: Vec<u8>) -> Option<Status>
 }
 
 /// Words that are no command: other words, flags, commands that aren't there yet, and more words than one.
-const NO_COMMANDS: [&[&str]; 20] = [
+const NO_COMMANDS: [&[&str]; 33] = [
     &[],
     &[""],
     &["repla"],
@@ -141,6 +141,19 @@ const NO_COMMANDS: [&[&str]; 20] = [
     &["decode "],
     &["gen"],
     &["big"],
+    &["gen", ""],
+    &["gen", "x"],
+    &["gen", "1x"],
+    &["gen", "+1"],
+    &["gen", "-1"],
+    &["gen", "1 "],
+    &["gen", "1234567"],
+    &["gen", "0000000"],
+    &["gen", "1", "2"],
+    &["gen", "--", "1"],
+    &["big", "1e3"],
+    &["1", "gen"],
+    &["replay", "1"],
     &["replay", "replay"],
     &["replay", ""],
     &["dump", "decode"],
@@ -152,6 +165,63 @@ fn no_other_words(rt: HostRuntime) -> Result<(), Fail> {
         let words = words(rt.alloc(), list)?;
         let status = silent_status(rt.alloc(), &words, ONE_MESSAGE.to_vec(rt.alloc())?);
         assert!(rt; status == Some(Status::Usage), "{list:?}");
+    }
+    Ok(())
+}
+
+/// What `gen 0` begins with.
+const GENERATED: &[u8] = b"xpsim 1
+partitions 2
+budget 2000000
+check 0
+script 0
+register 1 0 entries 4 limit 112
+connected 1 0
+send 1 0 - notify
+take 1 0
+release 1 0 0
+send 1 0 7*01 notify
+";
+
+/// The texts that `gen` writes of a number as it is spelled; nothing is read.
+fn expect_generated(
+    rt: &impl Abort,
+    alloc: Global,
+    number: &str,
+    front: &[u8],
+) -> Result<(), Fail> {
+    let words = words(alloc, &["gen", number])?;
+    let mut source = MemorySource::new(Vec::new(alloc), 1, vec![in alloc; 1u64]?);
+    let mut sink = WholeSink::new(alloc);
+    let done = plain(alloc, &words, &mut source, &mut sink);
+    assert!(rt; done.status == Status::Ok && done.end.is_none());
+    assert!(rt; sink.bytes().starts_with(front));
+    Ok(())
+}
+
+#[test]
+fn scenarios_of_numbers(rt: HostRuntime) -> Result<(), Fail> {
+    for (number, front) in [
+        ("0", GENERATED),
+        ("000000", GENERATED),
+        ("000006", b"xpsim 1\npartitions 8\n"),
+        ("999999", b"xpsim 1\npartitions 2\n"),
+    ] {
+        expect_generated(&rt, rt.alloc(), number, front)?;
+    }
+    Ok(())
+}
+
+/// The scenarios of numbers open their channels, which isn't built.
+#[test]
+fn summaries_of_numbers(rt: HostRuntime) -> Result<(), Fail> {
+    for number in ["0", "5"] {
+        let words = words(rt.alloc(), &["big", number])?;
+        let status = silent_status(rt.alloc(), &words, Vec::new(rt.alloc()));
+        assert!(rt;
+            status == Some(Status::BadInput(InputFault::Unbuilt)),
+            "{number}"
+        );
     }
     Ok(())
 }

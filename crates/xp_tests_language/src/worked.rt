@@ -1,0 +1,265 @@
+// Worked scenarios with their reports, replayed by the top call over a source and a sink in memory.
+use std::alloc::{AllocError, Global};
+use std::process::Abort;
+use std::test::Fail;
+use xp_tool::plain::plain;
+use xp_tool::status::Status;
+use xp_tool::words::Word;
+use xp_tool::{WholeSink, WholeSource};
+
+/// A scenario, and its report.
+type Row = (&'static [u8], &'static [u8]);
+
+const WORKED: [Row; 8] = [
+    // One message is sent, taken and released.
+    (
+        b"xpsim 1
+partitions 2
+warm 0 1 0 entries 4 limit 112
+script 0
+send 1 0 6869
+script 1
+take 0 0
+release 0 0 0
+schedule
+rounds 20000
+",
+        b"report 1
+partition 0 done boots 1
+  1 1 send ok 0
+  link 1 0 epoch 0 own 1.1 partner 1.1 accepted 1 taken 0 acked 0 delivered 0 ended 0
+partition 1 done boots 1
+  1 1 take ok 0 2:6869
+  1 2 release ok 1
+  link 0 0 epoch 0 own 1.1 partner 1.1 accepted 0 taken 1 acked 1 delivered 0 ended 0
+",
+    ),
+    // A message without bytes.
+    (
+        b"xpsim 1
+partitions 2
+warm 0 1 0 entries 4 limit 112
+script 0
+send 1 0 -
+script 1
+take 0 0
+release 0 0 0
+schedule
+rounds 20000
+",
+        b"report 1
+partition 0 done boots 1
+  1 1 send ok 0
+  link 1 0 epoch 0 own 1.1 partner 1.1 accepted 1 taken 0 acked 0 delivered 0 ended 0
+partition 1 done boots 1
+  1 1 take ok 0 0:
+  1 2 release ok 1
+  link 0 0 epoch 0 own 1.1 partner 1.1 accepted 0 taken 1 acked 1 delivered 0 ended 0
+",
+    ),
+    // A payload as long as the limit, and one a byte longer.
+    (
+        b"xpsim 1
+partitions 2
+warm 0 1 0 entries 4 limit 112
+script 0
+send 1 0 112*61
+send 1 0 113*61
+script 1
+take 0 0
+release 0 0 0
+schedule
+rounds 20000
+",
+        b"report 1
+partition 0 done boots 1
+  1 1 send ok 0
+  1 2 send too-big 113 112
+  link 1 0 epoch 0 own 1.1 partner 1.1 accepted 1 taken 0 acked 0 delivered 0 ended 0
+partition 1 done boots 1
+  1 1 take ok 0 112:6161616161616161..6161616161616161
+  1 2 release ok 1
+  link 0 0 epoch 0 own 1.1 partner 1.1 accepted 0 taken 1 acked 1 delivered 0 ended 0
+",
+    ),
+    // A full queue refuses a send that may not wait.
+    (
+        b"xpsim 1
+partitions 2
+warm 0 1 0 entries 1 limit 112
+script 0
+send 1 0 61 nowait
+send 1 0 62 nowait
+schedule
+rounds 20000
+",
+        b"report 1
+partition 0 done boots 1
+  1 1 send ok 0
+  1 2 send no-slot 1 0
+  link 1 0 epoch 0 own 1.1 partner 1.1 accepted 1 taken 0 acked 0 delivered 0 ended 0
+partition 1 done boots 1
+  link 0 0 epoch 0 own 1.1 partner 1.1 accepted 0 taken 0 acked 0 delivered 0 ended 0
+",
+    ),
+    // Five messages through a queue of two entries.
+    (
+        b"xpsim 1
+partitions 2
+warm 0 1 0 entries 2 limit 112
+script 0
+send 1 0 00
+send 1 0 01
+send 1 0 02
+send 1 0 03
+send 1 0 04
+script 1
+take 0 0
+release 0 0 0
+take 0 0
+release 0 0 1
+take 0 0
+release 0 0 2
+take 0 0
+release 0 0 3
+take 0 0
+release 0 0 4
+schedule
+rounds 20000
+",
+        b"report 1
+partition 0 done boots 1
+  1 1 send ok 0
+  1 2 send ok 1
+  1 3 send ok 2
+  1 4 send ok 3
+  1 5 send ok 4
+  link 1 0 epoch 0 own 1.1 partner 1.1 accepted 5 taken 0 acked 0 delivered 0 ended 0
+partition 1 done boots 1
+  1 1 take ok 0 1:00
+  1 2 release ok 1
+  1 3 take ok 1 1:01
+  1 4 release ok 2
+  1 5 take ok 2 1:02
+  1 6 release ok 3
+  1 7 take ok 3 1:03
+  1 8 release ok 4
+  1 9 take ok 4 1:04
+  1 10 release ok 5
+  link 0 0 epoch 0 own 1.1 partner 1.1 accepted 0 taken 5 acked 5 delivered 0 ended 0
+",
+    ),
+    // Messages are released from the last one to the first.
+    (
+        b"xpsim 1
+partitions 2
+warm 0 1 0 entries 4 limit 112
+script 0
+send 1 0 0a
+send 1 0 0b
+send 1 0 0c
+script 1
+take 0 0
+take 0 0
+take 0 0
+release 0 0 2
+release 0 0 1
+release 0 0 0
+schedule
+rounds 20000
+",
+        b"report 1
+partition 0 done boots 1
+  1 1 send ok 0
+  1 2 send ok 1
+  1 3 send ok 2
+  link 1 0 epoch 0 own 1.1 partner 1.1 accepted 3 taken 0 acked 0 delivered 0 ended 0
+partition 1 done boots 1
+  1 1 take ok 0 1:0a
+  1 2 take ok 1 1:0b
+  1 3 take ok 2 1:0c
+  1 4 release ok 0
+  1 5 release ok 0
+  1 6 release ok 3
+  link 0 0 epoch 0 own 1.1 partner 1.1 accepted 0 taken 3 acked 3 delivered 0 ended 0
+",
+    ),
+    // A message that was released is held no more.
+    (
+        b"xpsim 1
+partitions 2
+warm 0 1 0 entries 4 limit 112
+script 0
+send 1 0 6869
+script 1
+take 0 0
+release 0 0 0
+release 0 0 0
+schedule
+rounds 20000
+",
+        b"report 1
+partition 0 done boots 1
+  1 1 send ok 0
+  link 1 0 epoch 0 own 1.1 partner 1.1 accepted 1 taken 0 acked 0 delivered 0 ended 0
+partition 1 done boots 1
+  1 1 take ok 0 2:6869
+  1 2 release ok 1
+  1 3 release not-held
+  link 0 0 epoch 0 own 1.1 partner 1.1 accepted 0 taken 1 acked 1 delivered 0 ended 0
+",
+    ),
+    // An empty queue, nothing held, a channel that is not connected.
+    (
+        b"xpsim 1
+partitions 2
+warm 0 1 0 entries 4 limit 112
+script 1
+take 0 0 nowait
+release 0 0 0
+take 0 2
+schedule
+rounds 20000
+",
+        b"report 1
+partition 0 done boots 1
+  link 1 0 epoch 0 own 1.1 partner 1.1 accepted 0 taken 0 acked 0 delivered 0 ended 0
+partition 1 done boots 1
+  1 1 take empty 0
+  1 2 release not-held
+  1 3 take not-connected
+  link 0 0 epoch 0 own 1.1 partner 1.1 accepted 0 taken 0 acked 0 delivered 0 ended 0
+",
+    ),
+];
+
+fn replay_word(alloc: Global) -> Result<Vec<Word>, AllocError> {
+    let mut words = Vec::new(alloc);
+    words.push(String::from_str(alloc, "replay")?)?;
+    Ok(words)
+}
+
+/// The replay of a scenario leaves a world and writes this report.
+fn expect_report(
+    rt: &impl Abort,
+    alloc: Global,
+    words: &[Word],
+    scenario: &[u8],
+    report: &[u8],
+) -> Result<(), Fail> {
+    let mut source = WholeSource::new(scenario.to_vec(alloc)?);
+    let mut sink = WholeSink::new(alloc);
+    let done = plain(alloc, words, &mut source, &mut sink);
+    assert!(rt; done.status == Status::Ok && done.end.is_some());
+    assert_eq!(rt; sink.bytes(), report);
+    Ok(())
+}
+
+#[test]
+fn worked_scenarios(rt: HostRuntime) -> Result<(), Fail> {
+    let words = replay_word(rt.alloc())?;
+    for (scenario, report) in WORKED {
+        expect_report(&rt, rt.alloc(), &words, scenario, report)?;
+    }
+    Ok(())
+}
