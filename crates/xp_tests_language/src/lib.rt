@@ -1,5 +1,5 @@
 //! Tests of the language: each kind of line wrong in each way, pairs of faults, changed texts, texts that
-//! are printed, and the worked scenarios through the top call.
+//! are printed, the worked scenarios through the top call, the line of a summary.
 #![tactic(auto)]
 
 #[cfg(test)]
@@ -8,6 +8,8 @@ mod lines;
 mod mutated;
 #[cfg(test)]
 mod pairs;
+#[cfg(test)]
+mod places;
 #[cfg(test)]
 mod printed;
 #[cfg(test)]

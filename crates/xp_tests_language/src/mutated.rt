@@ -1,6 +1,7 @@
 // Texts that are changed here and there: each is read, or has its first fault at a place of the text; and what is read is
 // written and read back.
 ghost use Rattle.std.specs.Prelude.{◌<◌};
+ghost use Rattle.xp_script.specs.Lawful.{IsLawful};
 
 use std::alloc::{AllocError, Global};
 use std::process::Abort;
@@ -92,7 +93,9 @@ fn is_place(text: &[u8], line: u64, column: u64) -> bool {
 }
 
 /// Whether a scenario's text spells a scenario with the same text.
-fn is_read_back(alloc: Global, scenario: &Scenario) -> Result<bool, AllocError> {
+fn is_read_back(alloc: Global, scenario: &Scenario) -> Result<bool, AllocError>
+    requires { IsLawful scenario.now }
+{
     let text = print(alloc, scenario)?;
     match parse(alloc, &text) {
         Ok(again) => Ok(print(alloc, &again)? == text),
