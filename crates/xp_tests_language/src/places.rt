@@ -9,7 +9,7 @@ use xp_scenario::poke::poke_place;
 fn summary_of_no_partition(rt: HostRuntime) -> Result<(), Fail> {
     let nodes: [Node; 0] = [];
     let text = summary(rt.alloc(), 7, &nodes)?;
-    let line = b"big 7 partitions 0 accepted 0 taken 0 acked 0 delivered 0 done 0\n";
+    let line: &[u8] = b"big 7 partitions 0 accepted 0 taken 0 acked 0 delivered 0 done 0\n";
     assert!(rt; text.as_slice() == line);
     Ok(())
 }

@@ -1,11 +1,10 @@
 // Two partitions that boot, find each other, make contact and part again, by the machines of a boot and of a partner
 // over the words of both.
-use crate::ends::perform;
 use std::test::Fail;
 use xp_base::ids::PartId;
 use xp_base::layout::{
-    DEACTIVATION, ENGAGED, MASK, RECORDS_AT, RECORDS_PLACE_AT, SIGNATURE, SIGNATURE_AT, STAMP,
-    VARIABLES_AT, VARIABLES_PLACE_AT, VERSION, VERSION_AT, WINDOW_TURNS,
+    DEACTIVATION, ENGAGED, MASK, PART_WORDS, RECORDS_AT, RECORDS_PLACE_AT, SIGNATURE, SIGNATURE_AT,
+    STAMP, VARIABLES_AT, VARIABLES_PLACE_AT, VERSION, VERSION_AT, WINDOW_TURNS,
 };
 use xp_base::masks::bit;
 use xp_base::session::Session;
@@ -15,6 +14,26 @@ use xp_discover::boot::{Boot, BootAnswer};
 use xp_discover::look::{LookAnswer, judge};
 use xp_engage::area::{AreaState, PartnerState};
 use xp_engage::partner::PartnerEnd;
+
+/// What a step does with a word, and what it answers.
+fn done(kind: OpKind, word: u64) -> (u64, u64) {
+    match kind {
+        OpKind::Load => (word, word),
+        OpKind::Store(new) => (new, 0),
+        OpKind::Or(bits) => (word | bits, word),
+        OpKind::And(bits) => (word & bits, word),
+        OpKind::Take => (0, word),
+    }
+}
+
+fn perform(words: &mut Words, op: Op) -> u64 {
+    if op.owner.get() >= words.count() || op.index >= PART_WORDS {
+        return 0;
+    }
+    let (new, answer) = done(op.kind, words.at(op.owner, op.index));
+    words.set(op.owner, op.index, new);
+    answer
+}
 
 /// The words of a page that a look shows.
 const PAGE: [u32; 5] = [
@@ -29,15 +48,28 @@ const PAGE: [u32; 5] = [
 fn open(words: &mut Words) {
     for number in 0..2 {
         let own = PartId::known(number);
-        words.set(own, SIGNATURE_AT, SIGNATURE);
-        words.set(own, VERSION_AT, VERSION);
-        words.set(own, VARIABLES_PLACE_AT, VARIABLES_AT as u64);
-        words.set(own, RECORDS_PLACE_AT, RECORDS_AT as u64);
+        own_step(words, own, SIGNATURE_AT, OpKind::Store(SIGNATURE));
+        own_step(words, own, VERSION_AT, OpKind::Store(VERSION));
+        own_step(
+            words,
+            own,
+            VARIABLES_PLACE_AT,
+            OpKind::Store(VARIABLES_AT as u64),
+        );
+        own_step(
+            words,
+            own,
+            RECORDS_PLACE_AT,
+            OpKind::Store(RECORDS_AT as u64),
+        );
     }
 }
 
 /// A whole boot; how it ended, and after how many steps.
 fn boot(words: &mut Words, own: PartId) -> (Option<BootAnswer>, u32) {
+    if own.get() >= 2 {
+        return (None, 0);
+    }
     let mut boot = Boot::new(own, 2);
     for steps in 0..20 {
         let Some(wanted) = boot.next() else {
@@ -66,7 +98,7 @@ fn own_step(words: &mut Words, own: PartId, index: u32, kind: OpKind) -> u64 {
 fn look(words: &mut Words, partner: PartId) -> LookAnswer {
     let mut page = [0; 5];
     for (word, index) in page.iter_mut().zip(PAGE) {
-        *word = words.at(partner, index);
+        *word = own_step(words, partner, index, OpKind::Load);
     }
     judge(page)
 }
@@ -139,7 +171,12 @@ fn partners_meet_and_part(rt: HostRuntime) -> Result<(), Fail> {
 #[test]
 fn last_stamp_halts(rt: HostRuntime) -> Result<(), Fail> {
     let mut words = Words::open(rt.alloc(), 2)?;
-    words.set(PartId::known(0), STAMP, u32::MAX as u64);
+    own_step(
+        &mut words,
+        PartId::known(0),
+        STAMP,
+        OpKind::Store(u32::MAX as u64),
+    );
     let (answer, steps) = boot(&mut words, PartId::known(0));
     assert!(rt;
         matches!(
