@@ -1,9 +1,7 @@
-//! Tests of the machines over the whole protocol: the two sides of a channel, a boot and a
-//! partner, and the rounds of a partition.
+//! Tests of the machines over the whole protocol: the two sides of a channel, and the rounds
+//! of a partition.
 #![tactic(auto)]
 
-#[cfg(test)]
-mod partners;
 #[cfg(test)]
 mod pull_side;
 #[cfg(test)]
