@@ -27,14 +27,13 @@ const POKES: [(&[u8], Option<(u64, u64)>); 6] = [
     (b"", None),
 ];
 
-fn expect_place(rt: &impl Abort, number: usize) {
-    let (text, place) = POKES[number];
-    assert!(rt; poke_place(text) == place, "{number}");
+fn expect_place(rt: &impl Abort, text: &[u8], place: Option<(u64, u64)>) {
+    assert!(rt; poke_place(text) == place, "{text:?}");
 }
 
 #[test]
 fn first_pokes(rt: HostRuntime) {
-    for number in 0..POKES.len() {
-        expect_place(&rt, number);
+    for (text, place) in POKES {
+        expect_place(&rt, text, place);
     }
 }
