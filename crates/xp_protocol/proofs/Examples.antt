@@ -127,9 +127,9 @@ not_later = refl
 
 -- the first wait for the end of a connection is answered by the first connection that ended
 abbrev over : End
-over = (link_finished (channel_closed Unregistered (warm_end 0 link)).local).local
+over = (link_finished (channel_closed Unregistered (warm_end false link)).local).local
 
-waits : end_due (end_begun (warm_end 0 link) (Closed 1 0)).local (Closed 1 0) ≡ None
+waits : end_due (end_begun (warm_end false link) (Closed 1 0)).local (Closed 1 0) ≡ None
 waits = refl
 
 closed : end_due (end_begun over (Closed 1 0)).local (Closed 1 0) ≡ Some (ClosedAnswered Unregistered)

@@ -17,7 +17,7 @@ use Rattle.xp_base.specs.declared.reason.Reason.{Reason}
 use Rattle.xp_base.specs.History.{Act}
 use Rattle.xp_protocol.specs.Effects.{Effect, Note}
 use Rattle.xp_protocol.specs.State.{State, End, Peer, Going, Old, cold_peer, idle_end, idle_links, link_at, peer_at, end_at, end_of, peer_of, set_link, each}
-use Rattle.xp_protocol.specs.Peering.{booted_peer, try_contact, contact_made, same_peer, Here, peer_failed, has_shown, is_wrong, record_read, is_magic, all_links, all_peers, is_flagged, area_left_for, peer_effect, peer_read, deactivation_heard, own_effect, with_reason, is_bad_flags}
+use Rattle.xp_protocol.specs.Peering.{booted_peer, try_contact, contact_made, same_peer, Here, peer_failed, has_shown, is_wrong, record_read, is_magic, all_links, all_peers, is_flagged, area_left_for, peer_effect, peer_read, deactivation_heard, own_effect, with_reason, end_reason, is_bad_flags}
 use Rattle.std.specs.Prelude.{is_some, ◌&&◌, not}
 use Rattle.xp_base.specs.declared.step.CopyMark.{CopyMark}
 use Rattle.xp_protocol.specs.State.{Reading}
@@ -75,7 +75,7 @@ pub link_frame : {n : ℕ} (Q : End → List Note → Type 0) (s : ScenarioPart)
 link_frame Q s st k d m a q c h lk ld new old =
     let f = link_answered (mark_of s st (Link k d m)) (place_for s d) (end_of st k d) m a in
     let ns = cond (eqb d c) f.notes [] in
-    peer_by Q st.peers k (with_reason f.reason (set_link (numbered (mark_of s st (Link k d m)) d (peer_of st k)) d f.local)) ns q c h.partners lk
+    peer_by Q st.peers k (with_reason (end_reason (peer_of st k).flags_seen f.reason) (set_link (numbered (mark_of s st (Link k d m)) d (peer_of st k)) d f.local)) ns q c h.partners lk
     (λ e. link_by Q (peer_of st k).links d f.local f.notes c (h.channels k) ld (λ g. new e g) (λ n. subst (λ (j : ℕ). Q (end_of st j c) []) (sym e) (old (λ x y. n y)))) (λ n. old (λ x y. n x))
 
 -- the frame of a step for one partner

@@ -23,7 +23,7 @@ use Rattle.xp_protocol.specs.declared.rule.LinkRule.{LinkRule}
 use Rattle.xp_protocol.specs.declared.rule.LinkRule.TheVariants.{Ring, Pull, Acknowledge, SetFlag, ZeroGet, ZeroPut, StoreArgument, ReadArgument}
 use Rattle.xp_protocol.specs.Effects.{Effect, just, and_then, Row, store, set_theirs, SendNote, Accepted, Sent, PullNote, Heard, TakeRefused, Note, BySend, ByPull, Acked, Over, ToldOver, Began, Joined, Released, Drained, load_copy, Registered, Withdrawn}
 use Rattle.xp_protocol.specs.Sending.{Sending, new_sending, with_remote_get, ring_can, ring_row, ring_effect, send_closed}
-use Rattle.xp_protocol.specs.Pulling.{Pulling, SenderCounters, pull_can, pull_row, pull_effect, pull_failed, pull_closed, is_copying}
+use Rattle.xp_protocol.specs.Pulling.{Pulling, new_pulling, lesser, SenderCounters, pull_can, pull_row, pull_effect, pull_failed, pull_closed, is_copying}
 use Rattle.xp_protocol.specs.State.{End, Shake, Sides, fresh_sides, Contact, idle_end, no_shake, nothing_decided, link_of, is_connected, may_copy, is_begun, Size, Replied, request_word, size_in}
 
 -- what the sides of an end tell each other
@@ -88,25 +88,40 @@ acknowledged e = record {
   notes = Acked e.sides.ack.front ∷ release_notes e.sides.releasing e.sides.ack.front;
 }
 
--- which control flag is owed, where the channel is registered or not, both limits of the epoch are
--- equal or not, and a copy goes on or not
-abbrev pub owed_by : Kind → Bool → Bool → Bool → Shake → Bool
-owed_by OpenRequest registered equal copying x =
+-- the size of a registration or of an open request
+abbrev pub entries_in : Option Size → ℕ
+entries_in None = 0
+entries_in (Some z) = z.entries
+
+abbrev pub limit_in : Option Size → ℕ
+limit_in None = 0
+limit_in (Some z) = z.limit
+
+-- the limit of an epoch, once both open requests are there: the lesser of the two, where they are
+-- equal or both versions know entries of several lines
+abbrev pub agreed_by : Bool → ℕ → ℕ → Option ℕ
+agreed_by new own theirs = if new || nat_eq own theirs then Some (lesser own theirs) else None
+
+abbrev pub agreed : Shake → Option ℕ
+agreed x =
+    if x.sent.open_request && x.got.open_request
+    then agreed_by x.both_new (limit_in x.own_size) (limit_in x.their_size) else None
+
+-- which control flag is owed, where the channel is registered or not, and a copy goes on or not
+abbrev pub owed_by : Kind → Bool → Bool → Shake → Bool
+owed_by OpenRequest registered copying x =
     registered && (not (is_some x.reason) && not x.sent.open_request)
-owed_by OpenReply registered equal copying x =
-    not (is_some x.reason)
-    && (x.sent.open_request && (x.got.open_request && (equal && not x.sent.open_reply)))
-owed_by OpenComplete registered equal copying x =
+owed_by OpenReply registered copying x =
+    not (is_some x.reason) && (is_some (agreed x) && not x.sent.open_reply)
+owed_by OpenComplete registered copying x =
     not (is_some x.reason) && (x.sent.open_reply && (x.got.open_reply && not x.sent.open_complete))
-owed_by CloseRequest registered equal copying x = is_some x.reason && not x.sent.close_request
-owed_by CloseReply registered equal copying x =
+owed_by CloseRequest registered copying x = is_some x.reason && not x.sent.close_request
+owed_by CloseReply registered copying x =
     x.sent.close_request && (x.got.close_request && (not x.sent.close_reply && not copying))
-owed_by MsgRequest registered equal copying x = x.owes_message
+owed_by MsgRequest registered copying x = x.owes_message
 
 abbrev pub owed : Kind → End → Bool
-owed k e =
-    owed_by k (is_some e.registration) (nat_eq e.sides.send.limit e.sides.pull.limit)
-    (is_copying e.sides.pull) e.shake
+owed k e = owed_by k (is_some e.registration) (is_copying e.sides.pull) e.shake
 
 -- the arguments: of which flag, which word, and what is stored
 abbrev pub kind_of : Argument → Kind
@@ -216,11 +231,20 @@ close_now None reason e =
 abbrev pub link_closed : Reason → End → Effect End (List Note)
 link_closed reason e = if is_begun e then close_now e.shake.reason reason e else just e
 
--- the partner goes down: no flag is owed any more
+-- the partner goes down: no flag is owed any more, and no copy goes on, also where the channel had a
+-- reason to close before
+abbrev pub copies_over : Pulling → Pulling
+copies_over x = record x { counters = None; copied = []; run = 0 }
+
+abbrev pub parted : End → End
+parted e =
+    record e {
+      shake = record e.shake { owes_message = false; meet = None };
+      sides = record e.sides { pull = copies_over e.sides.pull };
+    }
+
 abbrev pub link_down : Reason → End → Effect End (List Note)
-link_down reason e =
-    and_then (link_closed reason e)
-    (λ x. just (record x { shake = record x.shake { owes_message = false; meet = None } }))
+link_down reason e = and_then (link_closed reason e) (λ x. just (parted x))
 
 -- the epoch is over: the numbers that were asked for are to be told, and the end is fresh
 abbrev pub over_note : Option Reason → List Note
@@ -257,19 +281,19 @@ abbrev pub link_finished : End → Effect End (List Note)
 link_finished e = record { local = fresh_end no_shake 0 e; reason = None; notes = over_notes e }
 
 -- a contact is made: the end is fresh in it
-abbrev pub joined_end : Contact → End → End
-joined_end m e =
+abbrev pub joined_end : Bool → Contact → End → End
+joined_end new m e =
     record idle_end {
       registration = e.registration;
-      shake = record no_shake { meet = Some m };
+      shake = record no_shake { meet = Some m; both_new = new };
       ended = e.ended ++ e.sides.pending_notices;
       closed = e.closed;
       closed_asked = e.closed_asked;
       decided = e.decided;
     }
 
-abbrev pub link_joined : Contact → End → Effect End (List Note)
-link_joined m e = just (joined_end m e)
+abbrev pub link_joined : Bool → Contact → End → Effect End (List Note)
+link_joined new m e = just (joined_end new m e)
 
 -- a boot begins: nothing is known
 abbrev pub booted_end : End → End
@@ -304,6 +328,7 @@ epoch_over e =
     record {
       local = fresh_end (record no_shake {
         meet = e.shake.meet;
+        both_new = e.shake.both_new;
         taken = e.shake.taken;
         request = e.shake.request;
         reply = e.shake.reply;
@@ -319,16 +344,19 @@ shake_ended x = x.sent.close_reply && x.got.close_reply
 abbrev pub is_ended : End → Bool
 is_ended e = shake_ended e.shake
 
--- else it closes where both open requests are there with unequal limits
+-- else it closes where both open requests are there and no limit is agreed
+abbrev pub shake_unequal : Shake → Bool
+shake_unequal x =
+    not (is_some x.reason)
+    && (x.sent.open_request && (x.got.open_request && not (is_some (agreed x))))
+
 abbrev pub are_unequal : End → Bool
-are_unequal e =
-    not (is_some e.shake.reason)
-    && (e.shake.sent.open_request
-    && (e.shake.got.open_request && not (nat_eq e.sides.send.limit e.sides.pull.limit)))
+are_unequal e = shake_unequal e.shake
 
 abbrev pub unequal : End → Effect End (List Note)
 unequal e =
-    if are_unequal e then channel_closed (UnequalSizes e.sides.send.limit e.sides.pull.limit) e
+    if are_unequal e
+    then channel_closed (UnequalSizes (limit_in e.shake.own_size) (limit_in e.shake.their_size)) e
     else just e
 
 abbrev pub changed : End → Effect End (List Note)
@@ -365,16 +393,7 @@ abbrev pub request_handled : Option ℕ → End → Effect End (List Note)
 request_handled None e = just e
 request_handled (Some w) e =
     if is_request w
-    then just (record e {
-      sides = record e.sides {
-        pull = record e.sides.pull {
-          entries = (size_in w).entries;
-          limit = (size_in w).limit;
-          copied = [];
-          run = 0;
-        };
-      };
-    })
+    then just (record e { shake = record e.shake { their_size = Some (size_in w) } })
     else channel_closed (BadArgs w) e
 
 abbrev pub reply_handled : Option Replied → End → Effect End (List Note)
@@ -407,6 +426,7 @@ refused_by MsgRequest x = false
 abbrev pub refused : Kind → End → Bool
 refused k e = refused_by k e.shake
 
+-- an end doesn't know the flag words that were taken: its partner's machine puts them in
 abbrev pub kind_refused : Kind → End → Effect End (List Note)
 kind_refused k e = record { local = kind_left k e; reason = Some (BadFlags 0); notes = [] }
 
@@ -456,23 +476,31 @@ with_taken ks e = record e { shake = record e.shake { taken = both e.shake.taken
 abbrev pub flags_got : Kinds → End → Effect End (List Note)
 flags_got ks e = if is_some e.shake.meet then and_then (just (with_taken ks e)) settled else just e
 
--- a flag is sent: with the open request the own size of the epoch is that of the registration
-abbrev pub entries_in : Option Size → ℕ
-entries_in None = 0
-entries_in (Some z) = z.entries
+-- a flag is sent: with the open request the own size of the epoch is that of the registration. With
+-- the open complete both sides are made anew, with the entries that each end asked for and the
+-- lesser of both limits
+abbrev pub shake_sent : Kind → Shake → Shake
+shake_sent k x = record x { sent = also k x.sent }
 
-abbrev pub limit_in : Option Size → ℕ
-limit_in None = 0
-limit_in (Some z) = z.limit
+abbrev pub limit_agreed : Shake → ℕ
+limit_agreed x = lesser (limit_in x.own_size) (limit_in x.their_size)
+
+abbrev pub sides_agreed : Shake → Sides → Sides
+sides_agreed x sides =
+    record sides {
+      send = new_sending (entries_in x.own_size) (limit_agreed x);
+      pull = new_pulling (entries_in x.their_size) (limit_agreed x);
+    }
 
 abbrev pub end_sent : Kind → End → End
-end_sent OpenRequest e = record e {
-  shake = record e.shake { sent = also OpenRequest e.shake.sent };
-  sides = record e.sides {
-    send = new_sending (entries_in e.registration) (limit_in e.registration);
-  };
-}
-end_sent k e = record e { shake = record e.shake { sent = also k e.shake.sent } }
+end_sent OpenRequest e =
+    record e { shake = record (shake_sent OpenRequest e.shake) { own_size = e.registration } }
+end_sent OpenComplete e =
+    record e {
+      shake = shake_sent OpenComplete e.shake;
+      sides = sides_agreed e.shake e.sides;
+    }
+end_sent k e = record e { shake = shake_sent k e.shake }
 
 abbrev pub with_sent : Kind → End → Effect End (List Note)
 with_sent k e = record { local = end_sent k e; reason = None; notes = opened_notes e }

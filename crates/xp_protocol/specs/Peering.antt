@@ -25,7 +25,7 @@ use Rattle.xp_protocol.specs.declared.rule.OwnRule.{OwnRule}
 use Rattle.xp_protocol.specs.declared.rule.OwnRule.TheVariants.{ReadEngaged, TakeDeactivation, ReadStamp, ZeroMask, ZeroOffline, WriteStamp, StoreMask, TakeActivation}
 use Rattle.xp_protocol.specs.Effects.{Effect, first_reason, Row, store, load_own, take_own, set_theirs, clear_theirs, clear_own, load_copy, Note}
 use Rattle.xp_protocol.specs.Pulling.{is_copying}
-use Rattle.xp_protocol.specs.State.{End, Boot, no_boot, PeerGoing, Area, Old, Off, Ready, Leaving, Engage, Reading, Contact, Peer, cold_peer, booted_engage, link_at, peer_at, each}
+use Rattle.xp_protocol.specs.State.{End, Boot, no_boot, PeerGoing, Area, Old, Off, Ready, Leaving, Engage, Reading, Contact, Peer, cold_peer, booted_engage, link_at, peer_at, each, any_kind, are_new}
 use Rattle.xp_protocol.specs.Linking.{flags_got, link_down, link_finished, link_joined, booted_end}
 
 -- each end of a partner changes, by its channel
@@ -58,11 +58,12 @@ with_reason reason p = record p {
   };
 }
 
--- what a step for a partner reads besides: the own number, the present turn, for how many turns
--- backing off lasts, whether the mask that was stored has the partner's bit, the stamp of the boot,
--- and in a boot whether the last one was read
+-- what a step for a partner reads besides: the own number and version, the present turn, for how
+-- many turns backing off lasts, whether the mask that was stored has the partner's bit, the stamp of
+-- the boot, and in a boot whether the last one was read
 pub record Here : Type 0 where
   pub part : ℕ
+  pub version : ℕ
   pub turn : ℕ
   pub wait : ℕ
   pub masked : Bool
@@ -88,8 +89,28 @@ is_bad_flags w =
 abbrev pub is_flagged : ℕ → ℕ → Bool
 is_flagged w bit = nat_eq (bit_at w bit) 1
 
+-- a flag waits to be handled, at an end or at any of a partner's
+abbrev pub waits : End → Bool
+waits e = any_kind e.shake.taken || e.shake.taken.msg_request
+
+abbrev pub any_waits : List End → Bool
+any_waits [] = false
+any_waits (e ∷ es) = waits e || any_waits es
+
+-- the flag words that were taken since no flag waited, with another one
+abbrev pub with_flags : ℕ → Peer → Peer
+with_flags w p = record p { flags_seen = if any_waits p.links then bit_or p.flags_seen w else w }
+
+-- a reason to deactivate that an end gives: where it refuses a flag, with the flag words
+abbrev pub end_reason : ℕ → Option Reason → Option Reason
+end_reason seen (Some (BadFlags w)) = Some (BadFlags seen)
+end_reason seen reason = reason
+
+abbrev pub for_partner : Effect Peer (ℕ → List Note) → Effect Peer (ℕ → List Note)
+for_partner f = record f { reason = end_reason f.local.flags_seen f.reason }
+
 abbrev pub flags_taken : ℕ → Peer → Effect Peer (ℕ → List Note)
-flags_taken w p = all_links (λ c e. flags_got (kinds_in w c) e) p
+flags_taken w p = for_partner (all_links (λ c e. flags_got (kinds_in w c) e) (with_flags w p))
 
 -- the connections to a partner go down
 abbrev pub left_engage : Engage → Engage
@@ -232,11 +253,21 @@ look_reason (Some echo) Absent stamp = None
 look_reason (Some echo) (BadVersion word) stamp = Some (BadVersionRead word)
 look_reason (Some echo) (Good version) stamp = booted_again echo stamp
 
-abbrev pub page_read : List ℕ → ℕ → Peer → Effect Peer (ℕ → List Note)
-page_read words w p =
+-- the partner's version counts from a good look on
+abbrev pub both_new_by : ℕ → Look → Bool → Bool
+both_new_by own (Good theirs) before = are_new own theirs
+both_new_by own look before = before
+
+abbrev pub page_read : ℕ → List ℕ → ℕ → Peer → Effect Peer (ℕ → List Note)
+page_read own words w p =
     if nat_eq (length words) 5
     then record {
-      local = record p { look = judged words; paging = [] };
+      local =
+          record p {
+            look = judged words;
+            paging = [];
+            both_new = both_new_by own (judged words) p.both_new;
+          };
       reason = look_reason p.engage.echo (judged words) w;
       notes = λ c. [];
     }
@@ -272,7 +303,7 @@ contact_of stamp x = record { own = session_now stamp x; theirs = session_of (or
 
 abbrev pub contact_made : ℕ → Peer → Effect Peer (ℕ → List Note)
 contact_made stamp p =
-    all_links (λ c e. link_joined (contact_of stamp p.engage) e)
+    all_links (λ c e. link_joined p.both_new (contact_of stamp p.engage) e)
     (record p {
       contact = Some (contact_of stamp p.engage);
       engage = record p.engage { state = Active };
@@ -521,7 +552,7 @@ peer_effect x p ClearEngagementBit w =
             else p.engage.state;
       };
     })
-peer_effect x p LookAtPage w = page_read (p.paging ++ w ∷ []) w p
+peer_effect x p LookAtPage w = page_read x.version (p.paging ++ w ∷ []) w p
 peer_effect x p ClearDeactivationBit w =
     same_peer (record p { engage = record p.engage { deactivation_cleared = true } })
 peer_effect x p TellPartner w = same_peer (record p { engage = record p.engage { told = true } })

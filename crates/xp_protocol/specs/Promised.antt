@@ -18,7 +18,7 @@ use Rattle.xp_base.specs.Kinds.{Kinds, has, kinds_in}
 use Rattle.xp_base.specs.Memory.{Memory, word_at, answer_of}
 use Rattle.xp_base.specs.Places.{Place, Open as OpenWord, Flag, Args, Entry, index_of, place_of, region_of}
 use Rattle.xp_base.specs.Entries.{entry_words}
-use Rattle.xp_protocol.specs.Linking.{code_of}
+use Rattle.xp_protocol.specs.Linking.{code_of, entries_in, limit_in, agreed}
 use Rattle.xp_protocol.specs.Parts.{IsRequestSize}
 use Rattle.xp_protocol.specs.Pulling.{is_copying}
 use Rattle.xp_protocol.specs.Acts.{after_acts, MayActs, notice_due}
@@ -208,8 +208,14 @@ pub record IsQueue (e g : End) (word : Kinds) : Type 0 where
 -- the words of an end's arguments are those of the flags that it has sent; what its partner has
 -- loaded of a flag that is taken is that word; and a size that was got in the same epoch is the
 -- end's
+abbrev pub size_asked : Option Size → Size
+size_asked o = record { entries = entries_in o; limit = limit_in o }
+
 abbrev pub size_sent : End → Size
-size_sent e = record { entries = e.sides.send.entries; limit = e.sides.send.limit }
+size_sent e = size_asked e.shake.own_size
+
+abbrev pub size_got : End → Size
+size_got e = size_asked e.shake.their_size
 
 pub record AreArguments (e g : End) (request reply code place : ℕ) : Type 0 where
   pub request_stands : e.shake.sent.open_request ≡ true → request ≡ request_word (size_sent e)
@@ -221,19 +227,23 @@ pub record AreArguments (e g : End) (request reply code place : ℕ) : Type 0 wh
       × (v.right ≡ true)
   pub code_loaded : (v : ℕ) → g.shake.code ≡ Some v → (g.shake.taken.close_request ≡ true)
       × (v ≡ code)
-  pub size : e.epoch ≡ g.epoch → g.shake.got.open_request ≡ true →
-      (g.sides.pull.entries ≡ e.sides.send.entries) × (g.sides.pull.limit ≡ e.sides.send.limit)
+  pub size : e.epoch ≡ g.epoch → g.shake.got.open_request ≡ true → size_got g ≡ size_sent e
 
 -- an end in contact: the size of its epoch may be asked for, and is that of its registration as
--- long as it doesn't close; once its open reply was sent the limits of both sides are equal; and
--- once its close reply was sent no copy of its channel goes on
+-- long as it doesn't close; once its open reply was sent a limit is agreed, and once its open
+-- complete was sent both sides have it, with the entries that each end asked for; and once its close
+-- reply was sent no copy of its channel goes on
 pub record IsSettled (e : End) : Type 0 where
   pub size : e.shake.sent.open_request ≡ true →
-      IsRequestSize e.sides.send.entries e.sides.send.limit
+      IsRequestSize (size_sent e).entries (size_sent e).limit
   pub registered : e.shake.sent.open_request ≡ true → e.shake.reason ≡ None → e.registration
       ≡ Some (size_sent e)
   pub copies : e.shake.sent.close_reply ≡ true → is_copying e.sides.pull ≡ false
-  pub equal : e.shake.sent.open_reply ≡ true → e.sides.send.limit ≡ e.sides.pull.limit
+  pub limit : e.shake.sent.open_reply ≡ true → is_some (agreed e.shake) ≡ true
+  pub entries : e.shake.sent.open_complete ≡ true →
+      (e.sides.send.entries ≡ (size_sent e).entries) × (e.sides.pull.entries ≡ (size_got e).entries)
+  pub limits : e.shake.sent.open_complete ≡ true →
+      (agreed e.shake ≡ Some e.sides.send.limit) × (agreed e.shake ≡ Some e.sides.pull.limit)
 
 -- of each end in contact, of each two, and of one whose partner waits for it under the session of
 -- the contact: then all that was sent stands in the word

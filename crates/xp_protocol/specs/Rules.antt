@@ -25,9 +25,9 @@ use Rattle.xp_protocol.specs.declared.rule.Rule.TheVariants.{Link, Peer as ForPe
 use Rattle.xp_script.specs.declared.part.ScenarioPart.{ScenarioPart}
 use Rattle.xp_protocol.specs.Parts.{IsPeer}
 use Rattle.xp_protocol.specs.Effects.{Effect, Copied, Row, Note}
-use Rattle.xp_protocol.specs.State.{State, End, Peer, PeerGoing, Beats, Going, Copies, Life, Up, Booting, Halted, Boot, Ready, end_of, peer_of, set_link}
+use Rattle.xp_protocol.specs.State.{State, End, Peer, PeerGoing, Beats, Going, Copies, Life, Up, Booting, Halted, Boot, Ready, end_of, peer_of, set_link, version_of}
 use Rattle.xp_protocol.specs.Linking.{link_can, link_row, link_effect, copy_failed}
-use Rattle.xp_protocol.specs.Peering.{Here, is_flagged, peer_can, peer_row, peer_effect, own_can, own_row, own_effect, mask_after, boot_after, stamp_after, with_reason, with_copy, peer_failed, failed_reason}
+use Rattle.xp_protocol.specs.Peering.{Here, is_flagged, peer_can, peer_row, peer_effect, own_can, own_row, own_effect, mask_after, boot_after, stamp_after, with_reason, end_reason, with_copy, peer_failed, failed_reason}
 
 -- a channel on which steps are permitted: its partner is in contact, and no reason to deactivate it
 -- stands
@@ -47,6 +47,7 @@ abbrev pub here_of : ScenarioPart → State → ℕ → Here
 here_of s st q =
     record {
       part = s.part;
+      version = version_of s s.part;
       turn = st.clock.turns + 1;
       wait = back_off_of s.count;
       masked = is_flagged st.beats.mask q;
@@ -226,7 +227,7 @@ abbrev pub peers_after : ScenarioPart → State → Rule → Answer → List Pee
 peers_after s st (Link q c m) a =
     let f = link_answered (mark_of s st (Link q c m)) (place_for s c) (end_of st q c) m a in
     let p = numbered (mark_of s st (Link q c m)) c (peer_of st q) in
-    slice_set st.peers q (with_reason f.reason (set_link p c f.local))
+    slice_set st.peers q (with_reason (end_reason p.flags_seen f.reason) (set_link p c f.local))
 peers_after s st (ForPeer q m) a =
     let f = peer_answered (here_of s st q) (mark_of s st (ForPeer q m)) (peer_of st q) m a in
     slice_set st.peers q (with_reason f.reason f.local)

@@ -1,7 +1,7 @@
 -- What a partition knows, as a product by what its rules may change: itself, each partner, and each
 -- end of a channel.
-use Rattle.std.specs.Prelude.{ℕ, Bool, true, false, ◌||◌, ◌&&◌, not, if◌then◌else◌, ◌+◌, ◌^◌, bit_or, List, [], ◌∷◌, slice_index_or, slice_set, replicate, Option, Some, None, is_some, ◌*◌, ◌/◌, ◌%◌}
-use Rattle.xp_base.specs.declared.layout.TheConstants.{CHANNELS, LINES}
+use Rattle.std.specs.Prelude.{ℕ, Bool, true, false, ◌||◌, ◌&&◌, not, nat_lt, if◌then◌else◌, ◌+◌, ◌^◌, bit_or, List, [], ◌∷◌, slice_index_or, slice_set, replicate, Option, Some, None, is_some, ◌*◌, ◌/◌, ◌%◌}
+use Rattle.xp_base.specs.declared.layout.TheConstants.{CHANNELS, LINES, LINES_VERSION}
 use Rattle.xp_base.specs.declared.body.TheConstants.{LINE_BYTES}
 use Rattle.xp_base.specs.declared.link.LinkState.{LinkState}
 use Rattle.xp_base.specs.declared.link.LinkState.TheVariants.{Idle, Opening, Connected, Closing}
@@ -22,6 +22,8 @@ use Rattle.xp_protocol.specs.declared.contact.PartnerState.{PartnerState}
 use Rattle.xp_protocol.specs.declared.contact.PartnerState.TheVariants.{Inactive, Active}
 use Rattle.xp_script.specs.declared.part.Link.{Link}
 use Rattle.xp_script.specs.declared.part.ScenarioPart.{ScenarioPart}
+use Rattle.xp_script.specs.Settings.{minor_of}
+use Rattle.xp_script.specs.Opening.{version_word}
 use Rattle.xp_protocol.specs.Records.{first_session}
 use Rattle.xp_protocol.specs.Sending.{Sending, new_sending}
 use Rattle.xp_protocol.specs.Pulling.{Pulling, new_pulling}
@@ -39,16 +41,20 @@ Contact = MetContact
 abbrev pub Replied : Type 0
 Replied = LoadedReply
 
--- the handshake of one epoch: the contact that it is of, which control flags were sent and got, why
--- it closes, which flags were taken and not handled, and the arguments that were loaded for them,
+-- the handshake of one epoch: the contact that it is of, whether both versions know entries of
+-- several lines, which control flags were sent and got, why it closes, the sizes that both ends ask
+-- for, the own one from the open request that is sent and the partner's from the one that is
+-- handled, which flags were taken and not handled, and the arguments that were loaded for them,
 -- whether a message request is owed, and what was stored for this epoch: which counters as 0, and
--- which arguments. The sizes of the epoch are those of the two sides: the own one from the open
--- request that is sent, the partner's from the one that is handled
+-- which arguments
 pub record Shake : Type 0 where
   pub meet : Option Contact
+  pub both_new : Bool
   pub sent : Kinds
   pub got : Kinds
   pub reason : Option Reason
+  pub own_size : Option Size
+  pub their_size : Option Size
   pub taken : Kinds
   pub request : Option ℕ
   pub reply : Option Replied
@@ -146,6 +152,8 @@ pub record Peer : Type 0 where
   pub wanted : Bool
   pub look : Look  -- what the last whole look showed
   pub paging : List ℕ  -- the words so far of a look that goes on
+  pub both_new : Bool  -- whether the last good look and the own page show versions that know lines
+  pub flags_seen : ℕ  -- the flag words that were taken since no flag waited to be handled
   pub numbers : PeerGoing
   pub engage : Engage
   pub contact : Option Contact
@@ -247,9 +255,12 @@ abbrev pub no_shake : Shake
 no_shake =
     record {
       meet = None;
+      both_new = false;
       sent = no_kinds;
       got = no_kinds;
       reason = None;
+      own_size = None;
+      their_size = None;
       taken = no_kinds;
       request = None;
       reply = None;
@@ -328,25 +339,32 @@ request_word z = z.limit + 65536 * z.entries
 abbrev pub size_in : ℕ → Size
 size_in w = record { entries = w / 65536; limit = w % 65536 }
 
-abbrev pub warm_shake : Link → Shake
-warm_shake l =
+abbrev pub warm_shake : Bool → Link → Shake
+warm_shake new l =
     record no_shake {
       meet = Some first_contact;
+      both_new = new;
       sent = opening_kinds;
       got = opening_kinds;
+      own_size = Some (size_of l);
+      their_size = Some (size_of l);
       get_zero = true;
       put_zero = true;
       request_put = Some (request_word (size_of l));
       reply_put = true;
     }
 
-abbrev pub warm_end : ℕ → Link → End
-warm_end part l =
+abbrev pub warm_end : Bool → Link → End
+warm_end new l =
     record idle_end {
       registration = Some (size_of l);
-      shake = warm_shake l;
+      shake = warm_shake new l;
       sides = new_sides (size_of l) (size_of l);
     }
+
+-- an end of the same partner whose channel isn't connected from the opening
+abbrev pub first_met : Bool → End → End
+first_met new e = record e { shake = record e.shake { meet = Some first_contact; both_new = new } }
 
 unfoldable pub idle_links : List End
 idle_links = replicate CHANNELS idle_end
@@ -400,6 +418,8 @@ cold_peer area =
       wanted = true;
       look = Unseen;
       paging = [];
+      both_new = false;
+      flags_seen = 0;
       numbers = record { pages = 0; records = 0 };
       engage = cold_engage area;
       contact = None;
@@ -434,19 +454,23 @@ abbrev pub each : {A : Type 0} → (ℕ → A → A) → ℕ → List A → List
 each f n [] = []
 each f n (x ∷ xs) = f n x ∷ each f (n + 1) xs
 
--- the partner of a link that is connected from the opening is in contact from the opening
-abbrev pub warm_peer : ℕ → Link → Peer → Peer
-warm_peer part l p =
+-- the partner of a link that is connected from the opening is in contact from the opening, with all
+-- its ends
+abbrev pub warm_peer : Bool → Link → Peer → Peer
+warm_peer new l p =
     record p {
+      both_new = new;
       engage = warm_engage;
       contact = Some first_contact;
-      links = slice_set p.links l.channel (warm_end part l);
+      links = slice_set (each (λ c e. first_met new e) 0 p.links) l.channel (warm_end new l);
     }
 
-abbrev pub opened_peers : ℕ → List Link → List Peer → List Peer
-opened_peers part [] peers = peers
-opened_peers part (l ∷ ls) peers =
-    opened_peers part ls (slice_set peers l.partner (warm_peer part l (peer_at peers l.partner)))
+-- `new` says of each partner whether its version and the own one know entries of several lines
+abbrev pub opened_peers : (ℕ → Bool) → List Link → List Peer → List Peer
+opened_peers new [] peers = peers
+opened_peers new (l ∷ ls) peers =
+    opened_peers new ls
+    (slice_set peers l.partner (warm_peer (new l.partner) l (peer_at peers l.partner)))
 
 -- a partition with a link opens booted, with the own memory for each partner free; one without
 -- boots first
@@ -478,6 +502,17 @@ abbrev pub opening_stamp : List Link → ℕ
 opening_stamp [] = 0
 opening_stamp (l ∷ ls) = 1
 
+-- the version word of the own page, or of a warm partner's, and whether two versions both know
+-- entries of several lines
+abbrev pub version_of : ScenarioPart → ℕ → ℕ
+version_of s q = version_word (minor_of q s.minors)
+
+abbrev pub are_new : ℕ → ℕ → Bool
+are_new own theirs = not (nat_lt own LINES_VERSION) && not (nat_lt theirs LINES_VERSION)
+
+abbrev pub opened_new : ScenarioPart → ℕ → Bool
+opened_new s q = are_new (version_of s s.part) (version_of s q)
+
 -- what is known at the opening, before any moment
 abbrev pub opened_state : ScenarioPart → State
 opened_state s = record {
@@ -501,5 +536,5 @@ opened_state s = record {
       };
   beats = record { mask = link_mask s.links };
   script = record { begun = 0; doing = false; since = 0 };
-  peers = opened_peers s.part s.links (first_peers s.count s.links);
+  peers = opened_peers (opened_new s) s.links (first_peers s.count s.links);
 }
