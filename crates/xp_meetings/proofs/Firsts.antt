@@ -10,7 +10,7 @@ use Rattle.xp_script.specs.declared.scenario.Scenario.{Scenario}
 use Rattle.xp_script.specs.Parts.{part_of, links_of}
 use Rattle.xp_script.specs.Opening.{opening}
 use Rattle.xp_script.specs.Lawful.{IsLawful}
-use Rattle.xp_protocol.specs.State.{Life, Engage, Contact, Peer, Old, cold_peer, warm_engage, warm_peer, first_contact, peer_at, peer_of, opened_peers, base_engage, base_peer, first_peers, opening_life, opening_stamp, opened_state}
+use Rattle.xp_protocol.specs.State.{Life, Engage, Contact, Peer, Old, cold_peer, warm_engage, warm_peer, first_contact, peer_at, peer_of, opened_peers, base_engage, base_peer, first_peers, opening_life, opening_stamp, opened_state, opened_new}
 use Rattle.xp_protocol.specs.Reached.{ReachedWords}
 use Rattle.xp_protocol.proofs.LawfulParts.{lawful_part}
 use Rattle.xp_protocol.proofs.Opened.{start_all}
@@ -38,11 +38,11 @@ warm_posture = record { engage = warm_engage; contact = Some first_contact }
 abbrev pub base_posture : List Link → Posture
 base_posture ls = record { engage = base_engage ls; contact = None }
 
-pub opened_at : {n : ℕ} (part : ℕ) (ls : List Link) (peers : List Peer) (q : ℕ) → length peers ≡ n → q < n → posture (peer_at (opened_peers part ls peers) q) ≡ cond (is_linked ls q) warm_posture (posture (peer_at peers q))
-opened_at part [] peers q n l = refl
-opened_at part (k ∷ ls) peers q n l =
-    let x = warm_peer part k (peer_at peers k.partner) in
-    opened_at part ls (set peers k.partner x) q (length-set peers k.partner x ∙ n) l ∙ by x refl (cases_eq k.partner q)
+pub opened_at : {n : ℕ} (new : ℕ → Bool) (ls : List Link) (peers : List Peer) (q : ℕ) → length peers ≡ n → q < n → posture (peer_at (opened_peers new ls peers) q) ≡ cond (is_linked ls q) warm_posture (posture (peer_at peers q))
+opened_at new [] peers q n l = refl
+opened_at new (k ∷ ls) peers q n l =
+    let x = warm_peer (new k.partner) k (peer_at peers k.partner) in
+    opened_at new ls (set peers k.partner x) q (length-set peers k.partner x ∙ n) l ∙ by x refl (cases_eq k.partner q)
   where
     again : (b : Bool) → cond b warm_posture warm_posture ≡ warm_posture
     again true = refl
@@ -63,8 +63,8 @@ base_at : (n : ℕ) (ls : List Link) (q : ℕ) → q < n → posture (peer_at (f
 unfolding first_peers
 base_at n ls q l = ap posture (get_or-replicate n q (base_peer ls) (cold_peer Old) l)
 
-pub start_at : (n part : ℕ) (ls : List Link) (q : ℕ) → q < n → posture (peer_at (opened_peers part ls (first_peers n ls)) q) ≡ cond (is_linked ls q) warm_posture (base_posture ls)
-start_at n part ls q l = opened_at part ls (first_peers n ls) q (base_length n ls) l ∙ ap (λ (y : Posture). cond (is_linked ls q) warm_posture y) (base_at n ls q l)
+pub start_at : (n : ℕ) (new : ℕ → Bool) (ls : List Link) (q : ℕ) → q < n → posture (peer_at (opened_peers new ls (first_peers n ls)) q) ≡ cond (is_linked ls q) warm_posture (base_posture ls)
+start_at n new ls q l = opened_at new ls (first_peers n ls) q (base_length n ls) l ∙ ap (λ (y : Posture). cond (is_linked ls q) warm_posture y) (base_at n ls q l)
 
 -- the words
 abbrev pub first_six : Bool → ℕ → ℕ → Six
@@ -105,8 +105,8 @@ module _ (s : Scenario) (law : IsLawful s) where
       let b = is_linked (links_of s p) q in
       let ls = links_of s p in
       let ms = links_of s q in
-      let mine : posture (peer_of (opened_state (part_of s p)) q) ≡ cond b warm_posture (base_posture ls) = start_at s.count p ls q k in
-      let theirs : posture (peer_of (opened_state (part_of s q)) p) ≡ cond b warm_posture (base_posture ms) = start_at s.count q ms p l ∙ ap (λ (z : Bool). cond z warm_posture (base_posture ms)) (linked_both s law q p) in
+      let mine : posture (peer_of (opened_state (part_of s p)) q) ≡ cond b warm_posture (base_posture ls) = start_at s.count (opened_new (part_of s p)) ls q k in
+      let theirs : posture (peer_of (opened_state (part_of s q)) p) ≡ cond b warm_posture (base_posture ms) = start_at s.count (opened_new (part_of s q)) ms p l ∙ ap (λ (z : Bool). cond z warm_posture (base_posture ms)) (linked_both s law q p) in
       let T : Posture → Posture → Six → Type 0 = λ x y z. Stood (opening_life ls) x (opening_life ms) y z in
       subst (λ (x : Posture). T x (posture (peer_of (opened_state (part_of s q)) p)) (six (opening_words s) p q)) (sym mine) (subst (λ (y : Posture). T (cond b warm_posture (base_posture ls)) y (six (opening_words s) p q)) (sym theirs)
       (subst (λ (z : Six). T (cond b warm_posture (base_posture ls)) (cond b warm_posture (base_posture ms)) z) (sym (six_first p q l k)) (stood_first ls ms b (λ e. linked_stamp ls q e) (λ e. linked_stamp ms p (linked_both s law q p ∙ e)))))

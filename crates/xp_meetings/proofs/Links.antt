@@ -12,7 +12,7 @@ use Rattle.xp_protocol.specs.Parts.{IsRequestSize}
 use Rattle.xp_script.specs.Settings.{joins}
 use Rattle.xp_script.specs.Parts.{link_in, links_to, links_from, links_of, part_of}
 use Rattle.xp_script.specs.Lawful.{IsLawfulWarm, IsLawful}
-use Rattle.xp_protocol.specs.State.{opened_state, end_of, warm_end}
+use Rattle.xp_protocol.specs.State.{opened_state, opened_new, end_of, warm_end}
 use Rattle.xp_protocol.proofs.Opened.{LinkAt, AreLow, link_opened, records_opened}
 use Rattle.xp_meetings.proofs.Gets.{get_left, get_right, get_both}
 use Rattle.xp_protocol.specs.Logged.{opened_records}
@@ -219,11 +219,11 @@ one_link_of s p i j l m e f g h =
     let both : Some l ≡ Some m = sym e ∙ ap (slice_get (links_of s p)) same ∙ f in
     cc
 
-pub start_end : (s : Scenario) (p q c : ℕ) (l : Link) → IsLawful s → (k : HasLink s p q c l) → end_of (opened_state (part_of s p)) q c ≡ warm_end p l
+pub start_end : (s : Scenario) (p q c : ℕ) (l : Link) → IsLawful s → (k : HasLink s p q c l) → end_of (opened_state (part_of s p)) q c ≡ warm_end (opened_new (part_of s p) q) l
 start_end s p q c l h k =
     let low : AreLow s.count (links_of s p) = λ i m e. let d = found s p i m e in (d.1, d.2) in
     let o = link_opened (part_of s p) q c l low k in
-    o.is ∙ ap (λ (x : Link). warm_end p x) (one_link_of s p o.at.number k.number o.link l o.at.listed k.listed (o.at.partner ∙ sym k.partner) (o.at.channel ∙ sym k.channel))
+    o.is ∙ ap (λ (x : Link). warm_end (opened_new (part_of s p) q) x) (one_link_of s p o.at.number k.number o.link l o.at.listed k.listed (o.at.partner ∙ sym k.partner) (o.at.channel ∙ sym k.channel))
 
 pub start_records : (s : Scenario) (p q c : ℕ) (l : Link) → (k : HasLink s p q c l) → opened_records (links_of s p) q c ≡ opened_record l ∷ []
 start_records s p q c l k = records_opened (links_of s p) q c k.number l k.listed k.partner k.channel (λ j m e f g. one_link_of s p j k.number m l e k.listed (f ∙ sym k.partner) (g ∙ sym k.channel))

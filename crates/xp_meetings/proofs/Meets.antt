@@ -156,8 +156,8 @@ module _ (lb : Life) (r : Peer) where
   prepare_kept y la p z (ArgsWord c f) o h = both_counter (left la p z) (right lb r z) h o
   prepare_kept y la p z (PlaceWord x) o h = both_counter (left la p z) (right lb r z) h o
 
-  page_kept : (la : Life) (p : Peer) (z : Six) (words : List ℕ) (v : ℕ) → Pair la p lb r z → Pair la (page_read words v p).local lb r z
-  page_kept la p z words v h = cond_peer (λ (x : Peer). Pair la x lb r z) (eqb (length words) 5) _ _ h h
+  page_kept : (own : ℕ) (la : Life) (p : Peer) (z : Six) (words : List ℕ) (v : ℕ) → Pair la p lb r z → Pair la (page_read own words v p).local lb r z
+  page_kept own la p z words v h = cond_peer (λ (x : Peer). Pair la x lb r z) (eqb (length words) 5) _ _ h h
 
   pub peer_kept : (y : Here) (la : Life) (p : Peer) (z : Six) (m : PeerRule) (v : ℕ) → la ≡ peer_life m → (la ≡ Up → y.stamp ≡ z.stamp) → peer_can y p m → Loads p z m v → Pair la p lb r z → Pair la (peer_effect y p m v).local lb r (six_after m (known (stamp_by la z.stamp) p.engage) z)
   peer_kept y la p z AskActivation v u t can l h = h
@@ -195,7 +195,7 @@ module _ (lb : Life) (r : Peer) where
     out None a s e = refl
     out (Some m) a s (inl e) = let t = a refl in let y = s t.0 t.2 in absurd (cc)
     out (Some m) a s (inr e) = let t : Ready ≡ Leaving = sym (a refl).0 ∙ e.0 in absurd (cc)
-  peer_kept y la p z LookAtPage v u t can l h = page_kept la p z (p.paging ++ v ∷ []) v h
+  peer_kept y la p z LookAtPage v u t can l h = page_kept y.version la p z (p.paging ++ v ∷ []) v h
   peer_kept y la p z ClearDeactivationBit v u t can l h = h
   peer_kept y la p z TellPartner v u t can l h = h
 
