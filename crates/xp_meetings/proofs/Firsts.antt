@@ -10,10 +10,14 @@ use Rattle.xp_script.specs.declared.scenario.Scenario.{Scenario}
 use Rattle.xp_script.specs.Parts.{part_of, links_of}
 use Rattle.xp_script.specs.Opening.{opening}
 use Rattle.xp_script.specs.Lawful.{IsLawful}
-use Rattle.xp_protocol.specs.State.{Life, Engage, Contact, Peer, Old, cold_peer, warm_engage, warm_peer, first_contact, peer_at, peer_of, opened_peers, base_engage, base_peer, first_peers, opening_life, opening_stamp, opened_state, opened_new}
+use Rattle.std.specs.Prelude.{is_some}
+use Rattle.xp_script.specs.declared.part.ScenarioPart.{ScenarioPart}
+use Rattle.xp_protocol.specs.State.{Life, Engage, End, Contact, Peer, Old, each, warm_end, first_met, idle_end, link_at, end_of, cold_peer, warm_engage, warm_peer, first_contact, peer_at, peer_of, opened_peers, base_engage, base_peer, first_peers, opening_life, opening_stamp, opened_state, opened_new}
 use Rattle.xp_protocol.specs.Reached.{ReachedWords}
 use Rattle.xp_protocol.proofs.LawfulParts.{lawful_part}
-use Rattle.xp_protocol.proofs.Opened.{start_all}
+use Rattle.xp_protocol.proofs.Slots.{at_slot, at_each}
+use Rattle.xp_protocol.proofs.Frames.{AreAll, set_all, length-each}
+use Rattle.xp_protocol.proofs.Opened.{start_all, off_all}
 use Rattle.xp_meetings.proofs.Words.{Words, Agrees}
 use Rattle.xp_meetings.proofs.Parts.{part_opened, part_start, part_from}
 use Rattle.xp_meetings.proofs.Always.{always}
@@ -65,6 +69,31 @@ base_at n ls q l = ap posture (get_or-replicate n q (base_peer ls) (cold_peer Ol
 
 pub start_at : (n : ℕ) (new : ℕ → Bool) (ls : List Link) (q : ℕ) → q < n → posture (peer_at (opened_peers new ls (first_peers n ls)) q) ≡ cond (is_linked ls q) warm_posture (base_posture ls)
 start_at n new ls q l = opened_at new ls (first_peers n ls) q (base_length n ls) l ∙ ap (λ (y : Posture). cond (is_linked ls q) warm_posture y) (base_at n ls q l)
+
+-- each end of a partner that has a link is in contact
+abbrev AreMet : Peer → Type 0
+AreMet p = (c : ℕ) → c < 4 → is_some (link_at p.links c).shake.meet ≡ true
+
+warm_met : (new : Bool) (l : Link) (p : Peer) → length p.links ≡ 4 → AreMet (warm_peer new l p)
+warm_met new l p n c lc =
+    let P : End → Type 0 = λ e. is_some e.shake.meet ≡ true in
+    at_slot P (each (λ d e. first_met new e) 0 p.links) l.channel c (warm_end new l) idle_end (λ f. refl) (at_each P (λ d e. first_met new e) p.links c idle_end refl (λ f. absurd (omega (arith, f, n, lc))))
+
+links_met : {n : ℕ} (new : ℕ → Bool) (ls : List Link) (peers : List Peer) (q : ℕ) → AreAll n peers → q < n → (is_linked ls q ≡ true) ⊎ AreMet (peer_at peers q) → AreMet (peer_at (opened_peers new ls peers) q)
+links_met new [] peers q all l (inl t) = absurd (cc)
+links_met new [] peers q all l (inr h) = h
+links_met new (k ∷ ls) peers q all l h =
+    let x = warm_peer (new k.partner) k (peer_at peers k.partner) in
+    let four : length x.links ≡ 4 = length-set (each (λ d e. first_met (new k.partner) e) 0 (peer_at peers k.partner).links) k.channel _ ∙ length-each (λ d e. first_met (new k.partner) e) 0 (peer_at peers k.partner).links ∙ all.channels k.partner in
+    links_met new ls (set peers k.partner x) q (set_all peers k.partner x four all) l (by x (warm_met (new k.partner) k (peer_at peers k.partner) (all.channels k.partner)) (cases_eq k.partner q) h)
+  where
+    by : (x : Peer) → AreMet x → (k.partner ≡ q) ⊎ (k.partner ≡ q → ⊥) → ((eqb k.partner q || is_linked ls q) ≡ true) ⊎ AreMet (peer_at peers q) → (is_linked ls q ≡ true) ⊎ AreMet (peer_at (set peers k.partner x) q)
+    by x w (inl e) h = inr (subst AreMet (sym (get_or-set_same peers q x (cold_peer Old) (omega (arith, all.partners, l))) ∙ ap (λ (m : ℕ). peer_at (set peers m x) q) (sym e)) w)
+    by x w (inr d) (inl t) = inl (sym (ap (λ (b : Bool). b || is_linked ls q) (ne_eqb k.partner q d)) ∙ t)
+    by x w (inr d) (inr m) = inr (subst AreMet (sym (get_or-set_other peers k.partner q x (cold_peer Old) (λ f. d (sym f)))) m)
+
+pub linked_met : (su : ScenarioPart) (q c : ℕ) → q < su.count → c < 4 → is_linked su.links q ≡ true → is_some (end_of (opened_state su) q c).shake.meet ≡ true
+linked_met su q c l lc t = links_met (opened_new su) su.links (first_peers su.count su.links) q (off_all su.count su.links) l (inl t) c lc
 
 -- the words
 abbrev pub first_six : Bool → ℕ → ℕ → Six

@@ -10,9 +10,10 @@ use Rattle.xp_base.specs.declared.reason.Reason.{Reason}
 use Rattle.xp_base.specs.declared.reason.Reason.TheVariants.{Unregistered, PartnerClosed, UnequalSizes, CopyError, NoHeartbeat, Reactivating, OtherGoingDown, Unloading, BadVersion, BadMagic, BadArgs, BadCounters, BadLength, BadNumber, BadFlags}
 use Rattle.xp_base.specs.Reasons.{reason_code}
 use Rattle.xp_protocol.specs.Parts.{IsRequestSize}
-use Rattle.xp_protocol.specs.Promised.{IsUnrefused}
+use Rattle.xp_protocol.specs.Promised.{IsUnrefused, size_asked}
+use Rattle.xp_protocol.specs.Pulling.{lesser}
 use Rattle.xp_protocol.specs.State.{Size, Replied, request_word, size_in}
-use Rattle.xp_protocol.specs.Linking.{request_of, code_of, entries_in, limit_in, kept_for, is_request, is_code}
+use Rattle.xp_protocol.specs.Linking.{request_of, code_of, agreed_by, kept_for, is_request, is_code}
 use Rattle.xp_promises.proofs.FlagEnds.{Kinds as Five, no_kinds as no_five, Oreq, Orep, Ocomp, Creq, Crep, also, without, both}
 
 -- the argument words of an end: the request, whether the reply is the place of the own entries, and the code
@@ -21,16 +22,19 @@ pub record Sheet : Type 0 where
   pub reply : Bool
   pub code : ℕ
 
--- what arguments and sizes read of an end
+-- what arguments and sizes read of an end: the sizes that both ends ask for, and those of its sides
 pub record Terms : Type 0 where
   pub epoch : ℕ
   pub sent : Five
   pub got : Five
   pub taken : Five
+  pub new : Bool
   pub reason : Option Reason
   pub registration : Option Size
   pub own : Size
   pub their : Size
+  pub sending : Size
+  pub pulling : Size
   pub request : Option ℕ
   pub reply : Option Replied
   pub code : Option ℕ
@@ -39,9 +43,14 @@ pub record Terms : Type 0 where
   pub code_put : Bool
   pub copying : Bool
 
+-- a size with the limit that two ends agree on
+abbrev pub agreed_size : Size → Size → Size → Size
+agreed_size z own their = record { entries = z.entries; limit = lesser own.limit their.limit }
+
 -- an end and its words: what was stored in this epoch stands, and it was stored before each flag that was sent; the size of the epoch is that of the registration,
--- as long as the end doesn't close; no copy goes on once the close reply was sent; both limits are equal where the open reply was sent
-pub record Said (x : Sheet) (sent : Five) (reason : Option Reason) (registration : Option Size) (own their : Size) (request_put : Option ℕ) (reply_put code_put copying : Bool) : Type 0 where
+-- as long as the end doesn't close; no copy goes on once the close reply was sent; a limit is agreed where the open reply was sent, and both sides have it where the
+-- open complete was
+pub record Said (x : Sheet) (sent : Five) (new : Bool) (reason : Option Reason) (registration : Option Size) (own their sending pulling : Size) (request_put : Option ℕ) (reply_put code_put copying : Bool) : Type 0 where
   pub put_request : (v : ℕ) → request_put ≡ Some v → x.request ≡ v
   pub put_reply : reply_put ≡ true → x.reply ≡ true
   pub put_code : code_put ≡ true → (is_some reason ≡ true) × (x.code ≡ code_of reason)
@@ -53,7 +62,8 @@ pub record Said (x : Sheet) (sent : Five) (reason : Option Reason) (registration
   pub stands : sent.oreq ≡ true → reason ≡ None → registration ≡ Some own
   pub idle : sent.crep ≡ true → copying ≡ false
   pub clean : IsUnrefused reason
-  pub equal : sent.orep ≡ true → own.limit ≡ their.limit
+  pub limit : sent.orep ≡ true → is_some (agreed_by new own.limit their.limit) ≡ true
+  pub sides : sent.ocomp ≡ true → (sending ≡ agreed_size own own their) × (pulling ≡ agreed_size their own their)
 
 -- what an end has of its partner's words x: an argument that was loaded for a flag that is taken is the one that stands; the size that was got in the same epoch is the partner's
 pub record Heard (x : Sheet) (their_epoch epoch : ℕ) (theirs : Size) (taken got : Five) (their : Size) (asked : Option ℕ) (replied : Option Replied) (coded : Option ℕ) : Type 0 where
@@ -65,7 +75,7 @@ pub record Heard (x : Sheet) (their_epoch epoch : ℕ) (theirs : Size) (taken go
   pub complete_after : got.ocomp ≡ true → got.orep ≡ true
 
 abbrev pub SaidBy : Sheet → Terms → Type 0
-SaidBy x a = Said x a.sent a.reason a.registration a.own a.their a.request_put a.reply_put a.code_put a.copying
+SaidBy x a = Said x a.sent a.new a.reason a.registration a.own a.their a.sending a.pulling a.request_put a.reply_put a.code_put a.copying
 
 abbrev pub HeardBy : Sheet → Terms → Terms → Type 0
 HeardBy x a b = Heard x a.epoch b.epoch a.own b.taken b.got b.their b.request b.reply b.code
@@ -89,6 +99,30 @@ size_back z h =
       test n m a b h e l =
           let p : a * lines b ≤ LINES = subst (λ (x : ℕ). x * lines b ≤ LINES) (sym e) (subst (λ (y : ℕ). n * lines y ≤ LINES) (sym l) h.3) in
           grind (arith, nat_tests, h, p)
+
+-- the agreed limit is no more than either, so a size with it fits as well
+pub lesser_turned : (a b : ℕ) → lesser a b ≡ lesser b a
+lesser_turned a b = grind (arith, nat_tests)
+
+pub size_agreed : (z own their : Size) → IsRequestSize z.entries z.limit → lesser own.limit their.limit ≤ z.limit → (let k = agreed_size z own their in IsRequestSize k.entries k.limit)
+size_agreed z own their h le = (h.0, h.1, omega (arith, h.2, le), fits (lesser own.limit their.limit) le) where
+  more : (a b : ℕ) → a ≤ b → lines a ≤ lines b
+  more a b h = omega (arith, h)
+
+  fits : (m : ℕ) → m ≤ z.limit → z.entries * lines m ≤ LINES
+  fits m h' = let k = more m z.limit h' in grind (arith, h, k)
+
+lesser_first : (a b : ℕ) → lesser a b ≤ a
+lesser_first a b = grind (arith, nat_tests)
+
+lesser_second : (a b : ℕ) → lesser a b ≤ b
+lesser_second a b = grind (arith, nat_tests)
+
+-- both ends agree on the sizes of their sides
+pub record AreAgreed (a b : Terms) : Type 0 where
+  pub own : (let z = agreed_size a.own a.own a.their in IsRequestSize z.entries z.limit)
+  pub their : (let z = agreed_size a.their a.own a.their in IsRequestSize z.entries z.limit)
+  pub fit : b.sent.ocomp ≡ true → b.got.oreq ≡ true → (b.pulling ≡ agreed_size a.own a.own a.their) × (b.sending ≡ agreed_size a.their a.own a.their)
 
 pub code_back : (o : Option Reason) → is_some o ≡ true → is_code (code_of o) ≡ true
 code_back None h = absurd (cc)
@@ -151,13 +185,14 @@ module _ (x y : Sheet) (a b : Terms) (h : Argued x y a b) where
       stands = λ s e. absurd (cc);
       idle = λ t. refl;
       clean = clean;
-      equal = h.mine.equal;
+      limit = h.mine.limit;
+      sides = h.mine.sides;
     };
   }
 
   -- flags are sent: the open request with the size of the registration
-  pub sends_oreq : is_some a.registration ≡ true → a.request_put ≡ Some (request_of a.registration) → (a.epoch ≡ b.epoch → b.got.oreq ≡ true → ⊥) → a.sent.orep ≡ false → Argued x y (record a { sent = also Oreq a.sent; own = record { entries = entries_in a.registration; limit = limit_in a.registration } }) b
-  sends_oreq reg put none unsent = record {
+  pub sends_oreq : is_some a.registration ≡ true → a.request_put ≡ Some (request_of a.registration) → (a.epoch ≡ b.epoch → b.got.oreq ≡ true → ⊥) → a.sent.orep ≡ false → a.sent.ocomp ≡ false → Argued x y (record a { sent = also Oreq a.sent; own = size_asked a.registration }) b
+  sends_oreq reg put none unsent unopened = record {
     theirs = h.theirs;
     heard = record { request = h.heard.request; reply = h.heard.reply; code = h.heard.code; sizes = λ e g. absurd (none e g); reply_after = h.heard.reply_after; complete_after = h.heard.complete_after };
     hears = h.hears;
@@ -173,31 +208,33 @@ module _ (x y : Sheet) (a b : Terms) (h : Argued x y a b) where
       stands = λ s e. is a.registration reg;
       idle = h.mine.idle;
       clean = h.mine.clean;
-      equal = λ t. absurd (cc);
+      limit = λ t. absurd (cc);
+      sides = λ t. absurd (cc);
     };
   } where
-    word : (o : Option Size) → is_some o ≡ true → request_of o ≡ request_word (record { entries = entries_in o; limit = limit_in o })
+    word : (o : Option Size) → is_some o ≡ true → request_of o ≡ request_word (size_asked o)
     word None t = absurd (cc)
     word (Some z) t = refl
 
-    is : (o : Option Size) → is_some o ≡ true → o ≡ Some (record { entries = entries_in o; limit = limit_in o })
+    is : (o : Option Size) → is_some o ≡ true → o ≡ Some (size_asked o)
     is None t = absurd (cc)
     is (Some z) t = refl
 
-  pub sends_orep : a.reply_put ≡ true → a.own.limit ≡ a.their.limit → Argued x y (record a { sent = also Orep a.sent }) b
-  sends_orep put same = record {
+  pub sends_orep : a.reply_put ≡ true → is_some (agreed_by a.new a.own.limit a.their.limit) ≡ true → Argued x y (record a { sent = also Orep a.sent }) b
+  sends_orep put agreed = record {
     theirs = h.theirs;
     heard = h.heard;
     hears = h.hears;
-    mine = record { put_request = h.mine.put_request; put_reply = h.mine.put_reply; put_code = h.mine.put_code; asked = h.mine.asked; replied = λ t. put; coded = h.mine.coded; size = h.mine.size; lawful = h.mine.lawful; stands = h.mine.stands; idle = h.mine.idle; clean = h.mine.clean; equal = λ t. same };
+    mine = record { put_request = h.mine.put_request; put_reply = h.mine.put_reply; put_code = h.mine.put_code; asked = h.mine.asked; replied = λ t. put; coded = h.mine.coded; size = h.mine.size; lawful = h.mine.lawful; stands = h.mine.stands; idle = h.mine.idle; clean = h.mine.clean; limit = λ t. agreed; sides = h.mine.sides };
   }
 
-  pub sends_ocomp : Argued x y (record a { sent = also Ocomp a.sent }) b
+  -- with the open complete both sides are made anew, with the agreed limit
+  pub sends_ocomp : Argued x y (record a { sent = also Ocomp a.sent; sending = agreed_size a.own a.own a.their; pulling = agreed_size a.their a.own a.their; copying = false }) b
   sends_ocomp = record {
     theirs = h.theirs;
     heard = h.heard;
     hears = h.hears;
-    mine = record { put_request = h.mine.put_request; put_reply = h.mine.put_reply; put_code = h.mine.put_code; asked = h.mine.asked; replied = h.mine.replied; coded = h.mine.coded; size = h.mine.size; lawful = h.mine.lawful; stands = h.mine.stands; idle = h.mine.idle; clean = h.mine.clean; equal = h.mine.equal };
+    mine = record { put_request = h.mine.put_request; put_reply = h.mine.put_reply; put_code = h.mine.put_code; asked = h.mine.asked; replied = h.mine.replied; coded = h.mine.coded; size = h.mine.size; lawful = h.mine.lawful; stands = h.mine.stands; idle = λ t. refl; clean = h.mine.clean; limit = h.mine.limit; sides = λ t. (refl, refl) };
   }
 
   pub sends_creq : a.code_put ≡ true → Argued x y (record a { sent = also Creq a.sent }) b
@@ -205,7 +242,7 @@ module _ (x y : Sheet) (a b : Terms) (h : Argued x y a b) where
     theirs = h.theirs;
     heard = h.heard;
     hears = h.hears;
-    mine = record { put_request = h.mine.put_request; put_reply = h.mine.put_reply; put_code = h.mine.put_code; asked = h.mine.asked; replied = h.mine.replied; coded = λ t. put; size = h.mine.size; lawful = h.mine.lawful; stands = h.mine.stands; idle = h.mine.idle; clean = h.mine.clean; equal = h.mine.equal };
+    mine = record { put_request = h.mine.put_request; put_reply = h.mine.put_reply; put_code = h.mine.put_code; asked = h.mine.asked; replied = h.mine.replied; coded = λ t. put; size = h.mine.size; lawful = h.mine.lawful; stands = h.mine.stands; idle = h.mine.idle; clean = h.mine.clean; limit = h.mine.limit; sides = h.mine.sides };
   }
 
   pub sends_crep : a.copying ≡ false → Argued x y (record a { sent = also Crep a.sent }) b
@@ -213,8 +250,24 @@ module _ (x y : Sheet) (a b : Terms) (h : Argued x y a b) where
     theirs = h.theirs;
     heard = h.heard;
     hears = h.hears;
-    mine = record { put_request = h.mine.put_request; put_reply = h.mine.put_reply; put_code = h.mine.put_code; asked = h.mine.asked; replied = h.mine.replied; coded = h.mine.coded; size = h.mine.size; lawful = h.mine.lawful; stands = h.mine.stands; idle = λ t. none; clean = h.mine.clean; equal = h.mine.equal };
+    mine = record { put_request = h.mine.put_request; put_reply = h.mine.put_reply; put_code = h.mine.put_code; asked = h.mine.asked; replied = h.mine.replied; coded = h.mine.coded; size = h.mine.size; lawful = h.mine.lawful; stands = h.mine.stands; idle = λ t. none; clean = h.mine.clean; limit = h.mine.limit; sides = h.mine.sides };
   }
+
+  -- the sizes of both sides once they are made anew: they may be asked for, and are those of the partner's sides, if it has made its own anew
+  pub agreed_sizes : a.epoch ≡ b.epoch → a.sent.oreq ≡ true → a.got.oreq ≡ true → b.sent.oreq ≡ true → AreAgreed a b
+  agreed_sizes even sent got asked = record {
+    own = size_agreed a.own a.own a.their (h.mine.size sent) (lesser_first a.own.limit a.their.limit);
+    their = size_agreed a.their a.own a.their (subst (λ (z : Size). IsRequestSize z.entries z.limit) (sym same) (h.theirs.size asked)) (lesser_second a.own.limit a.their.limit);
+    fit = λ t g. (
+        let s = h.theirs.sides t in
+        let back : b.their ≡ a.own = h.heard.sizes even g in
+        (s.1 ∙ ap (λ (z : Size). agreed_size z b.own b.their) back ∙ turned back a.own, s.0 ∙ ap (λ (z : Size). agreed_size z b.own b.their) (sym same) ∙ turned back a.their));
+  } where
+    same : a.their ≡ b.own
+    same = h.hears.sizes (sym even) got
+
+    turned : b.their ≡ a.own → (z : Size) → agreed_size z b.own b.their ≡ agreed_size z a.own a.their
+    turned back z = let limit : lesser b.own.limit b.their.limit ≡ lesser a.own.limit a.their.limit = ap (λ (k : Size). lesser k.limit b.their.limit) (sym same) ∙ ap (λ (k : Size). lesser a.their.limit k.limit) back ∙ lesser_turned a.their.limit a.own.limit in λ i. record { entries = z.entries; limit = limit i }
 
   -- flags are handled, and their arguments with them: none is refused
   pub request_is : (w : ℕ) → a.request ≡ Some w → b.sent.oreq ≡ true → (size_in w ≡ b.own) × (is_request w ≡ true)
@@ -229,9 +282,9 @@ module _ (x y : Sheet) (a b : Terms) (h : Argued x y a b) where
       let k = h.theirs.put_code (h.theirs.coded s) in
       ap (λ (n : ℕ). is_code n) ((h.hears.code w e).1 ∙ k.1) ∙ code_back b.reason k.0
 
-  pub gets_oreq : (z : Size) → z ≡ b.own → a.sent.orep ≡ false → Argued x y (record a { got = also Oreq a.got; taken = without Oreq a.taken; request = None; their = z }) b
-  gets_oreq z same unsent = record {
-    mine = record { put_request = h.mine.put_request; put_reply = h.mine.put_reply; put_code = h.mine.put_code; asked = h.mine.asked; replied = h.mine.replied; coded = h.mine.coded; size = h.mine.size; lawful = h.mine.lawful; stands = h.mine.stands; idle = h.mine.idle; clean = h.mine.clean; equal = λ t. absurd (cc) };
+  pub gets_oreq : (z : Size) → z ≡ b.own → a.sent.orep ≡ false → a.sent.ocomp ≡ false → Argued x y (record a { got = also Oreq a.got; taken = without Oreq a.taken; request = None; their = z }) b
+  gets_oreq z same unsent unopened = record {
+    mine = record { put_request = h.mine.put_request; put_reply = h.mine.put_reply; put_code = h.mine.put_code; asked = h.mine.asked; replied = h.mine.replied; coded = h.mine.coded; size = h.mine.size; lawful = h.mine.lawful; stands = h.mine.stands; idle = h.mine.idle; clean = h.mine.clean; limit = λ t. absurd (cc); sides = λ t. absurd (cc) };
     theirs = h.theirs;
     heard = h.heard;
     hears = record { request = λ v e. absurd (cc); reply = h.hears.reply; code = h.hears.code; sizes = λ e g. same; reply_after = λ t. refl; complete_after = h.hears.complete_after };
@@ -270,7 +323,7 @@ module _ (x y : Sheet) (a b : Terms) (h : Argued x y a b) where
   }
 
   -- the epoch is over
-  pub ends_terms : (r : Option Size) → ((z : Size) → r ≡ Some z → a.registration ≡ Some z) → (a.epoch + 1 ≡ b.epoch → b.got.oreq ≡ true → ⊥) → Argued x y (record a { epoch = a.epoch + 1; sent = no_five; got = no_five; reason = None; registration = r; request_put = None; reply_put = false; code_put = false; copying = false }) b
+  pub ends_terms : (r : Option Size) → ((z : Size) → r ≡ Some z → a.registration ≡ Some z) → (a.epoch + 1 ≡ b.epoch → b.got.oreq ≡ true → ⊥) → Argued x y (record a { epoch = a.epoch + 1; sent = no_five; got = no_five; reason = None; registration = r; own = size_asked None; their = size_asked None; request_put = None; reply_put = false; code_put = false; copying = false }) b
   ends_terms r less none = record {
     theirs = h.theirs;
     heard = record { request = h.heard.request; reply = h.heard.reply; code = h.heard.code; sizes = λ e g. absurd (none e g); reply_after = h.heard.reply_after; complete_after = h.heard.complete_after };
@@ -287,7 +340,8 @@ module _ (x y : Sheet) (a b : Terms) (h : Argued x y a b) where
       stands = λ t. absurd (cc);
       idle = λ t. refl;
       clean = tt;
-      equal = λ t. absurd (cc);
+      limit = λ t. absurd (cc);
+      sides = λ t. absurd (cc);
     };
   }
 
@@ -297,7 +351,7 @@ module _ (x y : Sheet) (a b : Terms) (h : Argued x y a b) where
     theirs = h.theirs;
     hears = h.hears;
     heard = record { request = λ w e. absurd (none (h.heard.request w e).0); reply = h.heard.reply; code = h.heard.code; sizes = h.heard.sizes; reply_after = h.heard.reply_after; complete_after = h.heard.complete_after };
-    mine = record { put_request = λ w e. cc; put_reply = h.mine.put_reply; put_code = h.mine.put_code; asked = λ t. absurd (cc); replied = h.mine.replied; coded = h.mine.coded; size = h.mine.size; lawful = h.mine.lawful; stands = h.mine.stands; idle = h.mine.idle; clean = h.mine.clean; equal = h.mine.equal };
+    mine = record { put_request = λ w e. cc; put_reply = h.mine.put_reply; put_code = h.mine.put_code; asked = λ t. absurd (cc); replied = h.mine.replied; coded = h.mine.coded; size = h.mine.size; lawful = h.mine.lawful; stands = h.mine.stands; idle = h.mine.idle; clean = h.mine.clean; limit = h.mine.limit; sides = h.mine.sides };
   }
 
   pub stores_reply : Argued (record x { reply = true }) y (record a { reply_put = true }) b
@@ -305,7 +359,7 @@ module _ (x y : Sheet) (a b : Terms) (h : Argued x y a b) where
     theirs = h.theirs;
     hears = h.hears;
     heard = record { request = h.heard.request; reply = h.heard.reply; code = h.heard.code; sizes = h.heard.sizes; reply_after = h.heard.reply_after; complete_after = h.heard.complete_after };
-    mine = record { put_request = h.mine.put_request; put_reply = λ t. refl; put_code = h.mine.put_code; asked = h.mine.asked; replied = λ t. refl; coded = h.mine.coded; size = h.mine.size; lawful = h.mine.lawful; stands = h.mine.stands; idle = h.mine.idle; clean = h.mine.clean; equal = h.mine.equal };
+    mine = record { put_request = h.mine.put_request; put_reply = λ t. refl; put_code = h.mine.put_code; asked = h.mine.asked; replied = λ t. refl; coded = h.mine.coded; size = h.mine.size; lawful = h.mine.lawful; stands = h.mine.stands; idle = h.mine.idle; clean = h.mine.clean; limit = h.mine.limit; sides = h.mine.sides };
   }
 
   pub stores_code : (b.taken.creq ≡ true → ⊥) → is_some a.reason ≡ true → Argued (record x { code = code_of a.reason }) y (record a { code_put = true }) b
@@ -313,7 +367,7 @@ module _ (x y : Sheet) (a b : Terms) (h : Argued x y a b) where
     theirs = h.theirs;
     hears = h.hears;
     heard = record { request = h.heard.request; reply = h.heard.reply; code = λ w e. absurd (none (h.heard.code w e).0); sizes = h.heard.sizes; reply_after = h.heard.reply_after; complete_after = h.heard.complete_after };
-    mine = record { put_request = h.mine.put_request; put_reply = h.mine.put_reply; put_code = λ t. (some, refl); asked = h.mine.asked; replied = h.mine.replied; coded = λ t. refl; size = h.mine.size; lawful = h.mine.lawful; stands = h.mine.stands; idle = h.mine.idle; clean = h.mine.clean; equal = h.mine.equal };
+    mine = record { put_request = h.mine.put_request; put_reply = h.mine.put_reply; put_code = λ t. (some, refl); asked = h.mine.asked; replied = h.mine.replied; coded = λ t. refl; size = h.mine.size; lawful = h.mine.lawful; stands = h.mine.stands; idle = h.mine.idle; clean = h.mine.clean; limit = h.mine.limit; sides = h.mine.sides };
   }
 
   -- an argument of a flag that is taken is loaded
@@ -349,7 +403,7 @@ module _ (x y : Sheet) (a b : Terms) (h : Argued x y a b) where
     theirs = h.theirs;
     heard = h.heard;
     hears = h.hears;
-    mine = record { put_request = h.mine.put_request; put_reply = h.mine.put_reply; put_code = h.mine.put_code; asked = h.mine.asked; replied = h.mine.replied; coded = h.mine.coded; size = h.mine.size; lawful = λ v e. subst (λ (k : Size). IsRequestSize k.entries k.limit) (one z v e) size; stands = λ s e. (let k : None ≡ Some a.own = sym none ∙ h.mine.stands s e in absurd (cc)); idle = h.mine.idle; clean = h.mine.clean; equal = h.mine.equal };
+    mine = record { put_request = h.mine.put_request; put_reply = h.mine.put_reply; put_code = h.mine.put_code; asked = h.mine.asked; replied = h.mine.replied; coded = h.mine.coded; size = h.mine.size; lawful = λ v e. subst (λ (k : Size). IsRequestSize k.entries k.limit) (one z v e) size; stands = λ s e. (let k : None ≡ Some a.own = sym none ∙ h.mine.stands s e in absurd (cc)); idle = h.mine.idle; clean = h.mine.clean; limit = h.mine.limit; sides = h.mine.sides };
   } where
     one : (z v : Size) → Some z ≡ Some v → z ≡ v
     one z v e = cc
@@ -359,15 +413,16 @@ module _ (x y : Sheet) (a b : Terms) (h : Argued x y a b) where
     theirs = h.theirs;
     heard = h.heard;
     hears = h.hears;
-    mine = record { put_request = h.mine.put_request; put_reply = h.mine.put_reply; put_code = h.mine.put_code; asked = h.mine.asked; replied = h.mine.replied; coded = h.mine.coded; size = h.mine.size; lawful = λ v e. absurd (cc); stands = λ s e. absurd (free s e); idle = h.mine.idle; clean = h.mine.clean; equal = h.mine.equal };
+    mine = record { put_request = h.mine.put_request; put_reply = h.mine.put_reply; put_code = h.mine.put_code; asked = h.mine.asked; replied = h.mine.replied; coded = h.mine.coded; size = h.mine.size; lawful = λ v e. absurd (cc); stands = λ s e. absurd (free s e); idle = h.mine.idle; clean = h.mine.clean; limit = h.mine.limit; sides = h.mine.sides };
   }
 
-  pub registered_terms : (r : Option Size) → ((z : Size) → r ≡ Some z → IsRequestSize z.entries z.limit) → a.sent.oreq ≡ false → Argued x y (record a { registration = r }) b
-  registered_terms r size unsent = record {
+  -- and is it when a contact is made, which knows the versions of both
+  pub registered_terms : (new : Bool) (r : Option Size) → ((z : Size) → r ≡ Some z → IsRequestSize z.entries z.limit) → a.sent.oreq ≡ false → a.sent.orep ≡ false → Argued x y (record a { new = new; registration = r }) b
+  registered_terms new r size unsent unreplied = record {
     theirs = h.theirs;
     heard = h.heard;
     hears = h.hears;
-    mine = record { put_request = h.mine.put_request; put_reply = h.mine.put_reply; put_code = h.mine.put_code; asked = h.mine.asked; replied = h.mine.replied; coded = h.mine.coded; size = h.mine.size; lawful = size; stands = λ s e. absurd (cc); idle = h.mine.idle; clean = h.mine.clean; equal = h.mine.equal };
+    mine = record { put_request = h.mine.put_request; put_reply = h.mine.put_reply; put_code = h.mine.put_code; asked = h.mine.asked; replied = h.mine.replied; coded = h.mine.coded; size = h.mine.size; lawful = size; stands = λ s e. absurd (cc); idle = h.mine.idle; clean = h.mine.clean; limit = λ t. absurd (cc); sides = h.mine.sides };
   }
 
   -- copies go on and end, until the close reply was sent
@@ -376,7 +431,7 @@ module _ (x y : Sheet) (a b : Terms) (h : Argued x y a b) where
     theirs = h.theirs;
     heard = h.heard;
     hears = h.hears;
-    mine = record { put_request = h.mine.put_request; put_reply = h.mine.put_reply; put_code = h.mine.put_code; asked = h.mine.asked; replied = h.mine.replied; coded = h.mine.coded; size = h.mine.size; lawful = h.mine.lawful; stands = h.mine.stands; idle = λ t. absurd (cc); clean = h.mine.clean; equal = h.mine.equal };
+    mine = record { put_request = h.mine.put_request; put_reply = h.mine.put_reply; put_code = h.mine.put_code; asked = h.mine.asked; replied = h.mine.replied; coded = h.mine.coded; size = h.mine.size; lawful = h.mine.lawful; stands = h.mine.stands; idle = λ t. absurd (cc); clean = h.mine.clean; limit = h.mine.limit; sides = h.mine.sides };
   }
 
   -- the registration is withdrawn, and the channel closes for it
@@ -397,6 +452,7 @@ module _ (x y : Sheet) (a b : Terms) (h : Argued x y a b) where
       stands = λ s e. absurd (cc);
       idle = λ t. refl;
       clean = clean;
-      equal = h.mine.equal;
+      limit = h.mine.limit;
+      sides = h.mine.sides;
     };
   }

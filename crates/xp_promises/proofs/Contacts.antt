@@ -184,7 +184,7 @@ module _ (i j : Side) (x y : Area) (rs ss : List Recorded) (e g : End) (h : Fine
 
 -- a line of two ends in a contact in which nothing happened
 abbrev joined : Session → Session → End
-joined u v = joined_end (record { own = u; theirs = v }) idle_end
+joined u v = joined_end false (record { own = u; theirs = v }) idle_end
 
 abbrev fresh_control : Control
 fresh_control = record { registered = false; epoch = 0; sent = no_five; got = no_five; taken = no_five; reason = false }
@@ -225,7 +225,7 @@ fresh_mine u v x rs unused = record {
 }
 
 fresh_said : (x : Sheet) → SaidBy x (terms idle_end)
-fresh_said x = record { put_request = λ v e. absurd (cc); put_reply = λ t. absurd (cc); put_code = λ t. absurd (cc); asked = λ t. absurd (cc); replied = λ t. absurd (cc); coded = λ t. absurd (cc); size = λ t. absurd (cc); lawful = λ z e. absurd (cc); stands = λ t. absurd (cc); idle = λ t. absurd (cc); clean = tt; equal = λ t. absurd (cc) }
+fresh_said x = record { put_request = λ v e. absurd (cc); put_reply = λ t. absurd (cc); put_code = λ t. absurd (cc); asked = λ t. absurd (cc); replied = λ t. absurd (cc); coded = λ t. absurd (cc); size = λ t. absurd (cc); lawful = λ z e. absurd (cc); stands = λ t. absurd (cc); idle = λ t. absurd (cc); clean = tt; limit = λ t. absurd (cc); sides = λ t. absurd (cc) }
 
 fresh_heard : (x : Sheet) → HeardBy x (terms idle_end) (terms idle_end)
 fresh_heard x = record { request = λ v e. absurd (cc); reply = λ v e. absurd (cc); code = λ v e. absurd (cc); sizes = λ e g. absurd (cc); reply_after = λ t. absurd (cc); complete_after = λ t. absurd (cc) }
@@ -248,18 +248,18 @@ fresh_line u v x y rs ss no_own no_their no_flags their_none =
       argued = record { mine = fresh_said x.sheet; theirs = fresh_said y.sheet; heard = fresh_heard x.sheet; hears = fresh_heard y.sheet };
     }
 
--- a channel that is registered when the contact is made
-registered : (u v : Session) (x y : Area) (rs ss : List Recorded) (e : End) (b : View) → HasSize e → Line u v x y rs ss (fresh u v) b → Line u v x y rs ss (view (joined_end (record { own = u; theirs = v }) e)) b
-registered u v x y rs ss e b size l = record {
+-- a channel that is registered when the contact is made, which knows the versions of both
+pub registered : (new : Bool) (u v : Session) (x y : Area) (rs ss : List Recorded) (e : End) (b : View) → HasSize e → Line u v x y rs ss (fresh u v) b → Line u v x y rs ss (view (joined_end new (record { own = u; theirs = v }) e)) b
+registered new u v x y rs ss e b size l = record {
   meet = l.meet;
   their_meet = l.their_meet;
   flags = again fresh_control b.control (five x.flags) (five y.flags) (is_some e.registration) false (λ d. d) l.flags;
   rest = l.rest;
-  argued = registered_terms x.sheet y.sheet (fresh u v).terms b.terms l.argued e.registration size refl;
+  argued = registered_terms x.sheet y.sheet (fresh u v).terms b.terms l.argued new e.registration size refl refl;
 }
 
 -- a contact is made
-module _ (i j : Side) (x y : Area) (rs ss : List Recorded) (e g : End) (h : Fine i j x y rs ss e g) (w : IsWaiting i) where
+module _ (new : Bool) (i j : Side) (x y : Area) (rs ss : List Recorded) (e g : End) (h : Fine i j x y rs ss e g) (w : IsWaiting i) where
   abbrev m : Contact
   m = contact_by i.x
 
@@ -267,7 +267,7 @@ module _ (i j : Side) (x y : Area) (rs ss : List Recorded) (e g : End) (h : Fine
   meets = record i { contact = Some m }
 
   abbrev joins : End
-  joins = joined_end m e
+  joins = joined_end new m e
 
   abbrev u : Session
   u = now i
@@ -297,7 +297,7 @@ module _ (i j : Side) (x y : Area) (rs ss : List Recorded) (e g : End) (h : Fine
     second k =
         let r = k.room in
         let l = subst (λ (a : View). Line r.own r.theirs x y rs ss a (view r.b)) (r.late w (sym k.own)) r.line in
-        record { own = r.own; theirs = r.theirs; a = joined_end (record { own = r.own; theirs = r.theirs }) e; b = r.b; here = λ d n. view (joined_end (record { own = k.own n; theirs = k.theirs n }) e); there = r.there; late = λ z. absurd (no_wait meets m refl z); their_late = r.their_late; line = registered r.own r.theirs x y rs ss e (view r.b) h.mine.size l }
+        record { own = r.own; theirs = r.theirs; a = joined_end new (record { own = r.own; theirs = r.theirs }) e; b = r.b; here = λ d n. view (joined_end new (record { own = k.own n; theirs = k.theirs n }) e); there = r.there; late = λ z. absurd (no_wait meets m refl z); their_late = r.their_late; line = registered new r.own r.theirs x y rs ss e (view r.b) h.mine.size l }
 
     -- the first comes
     none_of_mine : has u v (names rs) ≡ false
@@ -324,7 +324,7 @@ module _ (i j : Side) (x y : Area) (rs ss : List Recorded) (e g : End) (h : Fine
       there = λ d. absurd (cc);
       late = λ z. absurd (no_wait meets m refl z);
       their_late = λ z d. refl;
-      line = registered u v x y rs ss e (fresh v u) h.mine.size (fresh_line u v x y rs ss none_of_mine none (mine (h.mine.flags (inl w.ready))) (theirs (h.theirs.flags (inr (inr t.seen)))));
+      line = registered new u v x y rs ss e (fresh v u) h.mine.size (fresh_line u v x y rs ss none_of_mine none (mine (h.mine.flags (inl w.ready))) (theirs (h.theirs.flags (inr (inr t.seen)))));
     } where
       mine : (five x.flags ≡ no_five) ⊎ (has (session_of i.two) (session_of i.one) (names ss) ≡ true) → five x.flags ≡ no_five
       mine (inl z) = z

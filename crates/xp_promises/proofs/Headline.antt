@@ -1,11 +1,14 @@
 -- The promise of prefixes, of every history and every epoch.
-use Rattle.std.proofs.Common.{◌≡◌, ℕ, ◌<◌, Bool, true, false, cond, List, [], ◌∷◌, ◌++◌, refl, ap, sym, ◌∙◌, subst, arith, Some}
-use Rattle.std.specs.Prelude.{slice_get, is_some, Option}
+use Rattle.std.proofs.Common.{◌≡◌, ℕ, ◌<◌, Bool, true, false, ◌&&◌, cond, List, [], ◌∷◌, ◌++◌, refl, ap, sym, ◌∙◌, subst, arith, Some}
+use Rattle.std.specs.Prelude.{slice_get, is_some, nat_eq, nat_lt, Option}
 use Rattle.xp_base.specs.Memory.{Memory, answer_of}
 use Rattle.xp_base.specs.History.{Act, Event, turns_of}
 use Rattle.xp_base.specs.declared.layout.TheConstants.{PARTS}
 use Rattle.xp_base.specs.Places.{Place, IsWithin, Open as OpenWord, Record, Flag, Args, Entry, index_of}
-use Rattle.xp_promises.proofs.Arguments.{Argued, Sheet, SaidBy, HeardBy}
+use Rattle.xp_promises.proofs.Arguments.{Argued, Sheet, SaidBy, HeardBy, agreed_size}
+use Rattle.xp_protocol.specs.Pulling.{lesser}
+use Rattle.xp_protocol.specs.Linking.{agreed, agreed_by, limit_in}
+use Rattle.xp_promises.proofs.Contacts.{fresh_line, registered}
 use Rattle.xp_base.specs.Kinds.{Kinds, kinds_in, no_kinds, IsFlagWord}
 use Rattle.xp_script.specs.declared.part.Link.{Link}
 use Rattle.xp_script.specs.declared.scenario.Scenario.{Scenario}
@@ -14,7 +17,7 @@ use Rattle.xp_script.specs.Parts.{part_of}
 use Rattle.xp_script.specs.Opening.{opening}
 use Rattle.xp_script.specs.Lawful.{IsLawful}
 use Rattle.xp_protocol.specs.Records.{Recorded, opened_record, blank_record, first_session}
-use Rattle.xp_protocol.specs.State.{State, Contact, Ready, End, Size, opened_state, end_of, warm_end, size_of}
+use Rattle.xp_protocol.specs.State.{State, Contact, Ready, End, Size, opened_state, opened_new, end_of, warm_end, first_met, size_of}
 use Rattle.xp_protocol.specs.Reached.{ReachedWords, state_at}
 use Rattle.xp_protocol.specs.Promised.{those_in, sent_order, word_answered, known_acted, Withdraws, IsSettled, IsQueue, AreArguments, FlagsInOrder, word_of, IsUnrefused, NothingRefused, records_of, Name, exchanged, by_name, is_name, name_of, IsLine, IsPrefixOf, accepted_of, first_named, KeepsPromises}
 use Rattle.xp_protocol.proofs.LawfulParts.{lawful_part}
@@ -38,20 +41,20 @@ use Rattle.xp_meetings.proofs.Both.{Side, Both}
 use Rattle.xp_meetings.proofs.Six.{Six, six}
 use Rattle.xp_meetings.proofs.Touch.{now, IsWaiting}
 use Rattle.xp_meetings.proofs.Meets.{left, right}
-use Rattle.xp_meetings.proofs.Opening.{is_linked, linked_by, opening_stamped, linked_stamp, linked_life, opening_words, agrees_opening, counter_zero, flag_zero, opening_magic, opening_right, opening_request, opening_reply}
+use Rattle.xp_meetings.proofs.Opening.{is_linked, linked_by, linked_both, opening_stamped, linked_stamp, linked_life, opening_words, agrees_opening, counter_zero, flag_zero, opening_magic, opening_right, opening_request, opening_reply}
 use Rattle.xp_promises.proofs.Fields.{RightAt, Right, Stands}
 use Rattle.xp_protocol.specs.declared.rule.RecordField.{RecordField}
 use Rattle.xp_protocol.specs.Peering.{field_number}
 use Rattle.xp_protocol.specs.State.{Engage}
 use Rattle.std.specs.Int.{bit_at}
 use Rattle.std.proofs.lemmas.Nat.Bits.{bit_at-zero}
-use Rattle.xp_meetings.proofs.Firsts.{Posture, posture, warm_posture, base_posture, start_at, met_first}
+use Rattle.xp_meetings.proofs.Firsts.{Posture, posture, warm_posture, base_posture, start_at, linked_met, met_first}
 use Rattle.xp_promises.proofs.Direction.{NewOut, NewIn, new_kept}
 use Rattle.xp_promises.proofs.FlagEnds.{Kinds as Five, End as Control, no_kinds as no_five}
 use Rattle.xp_promises.proofs.FlagKept.{Sound}
 use Rattle.xp_promises.proofs.Ways.{out_of, in_of, Way}
 use Rattle.xp_promises.proofs.Rests.{Data, parts, Mine}
-use Rattle.xp_promises.proofs.Lines.{fresh, IsMagical, View, FineAt, Area, area_at, five, control, terms, view, Line, Room, Named, Front, Fine, Good}
+use Rattle.xp_promises.proofs.Lines.{fresh, HasSize, turned as line_turned, IsMagical, View, FineAt, Area, area_at, five, control, terms, view, Line, Room, Named, Front, Fine, Good}
 use Rattle.xp_promises.proofs.Books.{at, named, names, has, meeting_at, Apart, found_self}
 use Rattle.xp_promises.proofs.Places.{no_flags}
 use Rattle.xp_meetings.proofs.Touch.{now, IsWaiting}
@@ -95,19 +98,19 @@ abbrev first_at : ℕ → List Recorded → Recorded
 first_at e rs = named first_session first_session e rs
 
 -- a direction at the opening
-module _ (p q : ℕ) (l m : Link) (x y : Data) (size : IsRequestSize l.entries l.limit) (ne : m.entries ≡ l.entries) (nl : m.limit ≡ l.limit) (zx : x.put ≡ 0) (zy : y.get ≡ 0) where
-  first_out : (e : ℕ) → NewOut l.entries l.limit (out_of x.put x.entry (first_at e (opened_record l ∷ [])) (warm_end p l).sides.send)
+module _ (new their_new : Bool) (l m : Link) (x y : Data) (size : IsRequestSize l.entries l.limit) (ne : m.entries ≡ l.entries) (nl : m.limit ≡ l.limit) (zx : x.put ≡ 0) (zy : y.get ≡ 0) where
+  first_out : (e : ℕ) → NewOut l.entries l.limit (out_of x.put x.entry (first_at e (opened_record l ∷ [])) (warm_end new l).sides.send)
   first_out e = record { entries = refl; size = refl; word = zx; put = refl; known = refl; next = refl; stored = refl; accepted = nothing (λ r. r.accepted) [] l refl refl (at first_session first_session e) }
 
-  first_in : (e : ℕ) → NewIn l.entries l.limit (in_of y.get (first_at e (opened_record m ∷ [])) (parts (warm_end q m)).inn)
+  first_in : (e : ℕ) → NewIn l.entries l.limit (in_of y.get (first_at e (opened_record m ∷ [])) (parts (warm_end their_new m)).inn)
   first_in e = record { entries = ne; size = nl; word = zy; stored = refl; front = refl; later = refl; count = refl; cache = refl; pulled = refl; seen = refl; copied = refl; taken = nothing (λ r. r.taken) [] m refl refl (at first_session first_session e); acked = nothing (λ r. r.acked) 0 m refl refl (at first_session first_session e) }
 
-  first_way : Way first_session first_session x.put x.entry y.get (opened_record l ∷ []) (opened_record m ∷ []) 0 0 true true (warm_end p l).sides.send (parts (warm_end q m)).inn
+  first_way : Way first_session first_session x.put x.entry y.get (opened_record l ∷ []) (opened_record m ∷ []) 0 0 true true (warm_end new l).sides.send (parts (warm_end their_new m)).inn
   first_way = record {
     n = λ e. l.entries;
     limit = λ e. l.limit;
-    out = λ e. out_of x.put x.entry (first_at e (opened_record l ∷ [])) (warm_end p l).sides.send;
-    inn = λ e. in_of y.get (first_at e (opened_record m ∷ [])) (parts (warm_end q m)).inn;
+    out = λ e. out_of x.put x.entry (first_at e (opened_record l ∷ [])) (warm_end new l).sides.send;
+    inn = λ e. in_of y.get (first_at e (opened_record m ∷ [])) (parts (warm_end their_new m)).inn;
     kept = λ e. new_kept l.entries l.limit _ _ size.0 size.1 size.3 (first_out e) (first_in e);
     out_live = λ d. refl;
     in_live = λ d. refl;
@@ -117,12 +120,22 @@ module _ (p q : ℕ) (l m : Link) (x y : Data) (size : IsRequestSize l.entries l
     acked = λ e. refl;
   }
 
-first_mine : (p : ℕ) (l : Link) (x : Data) → Mine first_session first_session x (opened_record l ∷ []) (parts (warm_end p l))
-first_mine p l x = record { first = λ d. refl; below = (λ d. omega arith, tt); fresh = λ d. absurd (cc); ready = λ d. (refl, refl); out = λ d. absurd (cc); inn = λ d. absurd (cc); put_word = λ d. absurd (cc); get_word = λ d. absurd (cc) }
+first_mine : (new : Bool) (l : Link) (x : Data) → Mine first_session first_session x (opened_record l ∷ []) (parts (warm_end new l))
+first_mine new l x = record { first = λ d. refl; below = (λ d. omega arith, tt); fresh = λ d. absurd (cc); ready = λ d. (refl, refl); out = λ d. absurd (cc); inn = λ d. absurd (cc); put_word = λ d. absurd (cc); get_word = λ d. absurd (cc) }
 
 -- the arguments at the opening
-first_said : (x : Sheet) (p : ℕ) (l : Link) → IsRequestSize l.entries l.limit → x.request ≡ l.limit + 65536 * l.entries → x.reply ≡ true → SaidBy x (terms (warm_end p l))
-first_said x p l size request reply = record {
+equal_agreed : (new : Bool) (n : ℕ) → is_some (agreed_by new n n) ≡ true
+equal_agreed true n = refl
+equal_agreed false n = rw (eq-eqb n n refl) refl
+
+lesser_same : (n : ℕ) → lesser n n ≡ n
+lesser_same n = by (nat_lt n n) where
+  by : (b : Bool) → cond b n n ≡ n
+  by true = refl
+  by false = refl
+
+first_said : (x : Sheet) (new : Bool) (l : Link) → IsRequestSize l.entries l.limit → x.request ≡ l.limit + 65536 * l.entries → x.reply ≡ true → SaidBy x (terms (warm_end new l))
+first_said x new l size request reply = record {
   put_request = λ v e. request ∙ (let k : l.limit + 65536 * l.entries ≡ v = cc in k);
   put_reply = λ t. reply;
   put_code = λ t. absurd (cc);
@@ -134,11 +147,14 @@ first_said x p l size request reply = record {
   stands = λ t e. refl;
   idle = λ t. absurd (cc);
   clean = tt;
-  equal = λ t. refl;
-}
+  limit = λ t. equal_agreed new l.limit;
+  sides = λ t. (same, same);
+} where
+  same : size_of l ≡ agreed_size (size_of l) (size_of l) (size_of l)
+  same i = record { entries = l.entries; limit = sym (lesser_same l.limit) i }
 
-first_heard : (x : Sheet) (p q : ℕ) (l m : Link) → size_of m ≡ size_of l → HeardBy x (terms (warm_end p l)) (terms (warm_end q m))
-first_heard x p q l m same = record { request = λ v e. absurd (cc); reply = λ v e. absurd (cc); code = λ v e. absurd (cc); sizes = λ e g. same; reply_after = λ t. refl; complete_after = λ t. refl }
+first_heard : (x : Sheet) (new their_new : Bool) (l m : Link) → size_of m ≡ size_of l → HeardBy x (terms (warm_end new l)) (terms (warm_end their_new m))
+first_heard x new their_new l m same = record { request = λ v e. absurd (cc); reply = λ v e. absurd (cc); code = λ v e. absurd (cc); sizes = λ e g. same; reply_after = λ t. refl; complete_after = λ t. refl }
 
 first_front : (l m : Link) (k : Name) → Front (opened_record l ∷ []) (opened_record m ∷ []) k
 first_front l m k = ((by_name k (opened_record l ∷ [])).accepted, λ i. sym (nothing (λ r. r.taken) [] m refl refl (exchanged k)) i ++ (by_name k (opened_record l ∷ [])).accepted)
@@ -162,6 +178,16 @@ record_front rs ss h i r e =
     let t = h.gets (exchanged (name_of r)) in
     subst (λ (bs : List (List ℕ)). IsPrefixOf r.taken bs) (other_accepted r ss) (subst (λ (z : Recorded). IsPrefixOf z.taken (by_name (exchanged (name_of r)) ss).accepted) (found_self rs i r h.apart e) t)
 
+-- an agreed limit is the lesser one
+agreed_there : (s g new : Bool) (own their : ℕ) → s ≡ true → g ≡ true → cond (s && g) (agreed_by new own their) None ≡ agreed_by new own their
+agreed_there s g new own their d e = rw (d, e) refl
+
+agreed_is : (new : Bool) (own their : ℕ) → is_some (agreed_by new own their) ≡ true → agreed_by new own their ≡ Some (lesser own their)
+agreed_is new own their h = by (new || nat_eq own their) h where
+  by : (b : Bool) → is_some (cond b (Some (lesser own their)) None) ≡ true → cond b (Some (lesser own their)) None ≡ Some (lesser own their)
+  by true t = refl
+  by false t = absurd (cc)
+
 module _ (s : Scenario) (law : IsLawful s) where
   abbrev pub Joined : ℕ → ℕ → ℕ → Type 0
   Joined p q c = IsLine s p q c
@@ -182,6 +208,9 @@ module _ (s : Scenario) (law : IsLawful s) where
   lawful p l = lawful_part s p law l
 
   -- the opening
+  abbrev new_at : ℕ → ℕ → Bool
+  new_at p q = opened_new (part_of s p) q
+
   abbrev first_area : ℕ → ℕ → ℕ → Area
   first_area p q c = area_at (opening_words s p) q c
 
@@ -191,25 +220,25 @@ module _ (s : Scenario) (law : IsLawful s) where
   reply_right : (p q c : ℕ) (l : Link) → p < s.count → HasLink s p q c l → (first_area p q c).sheet.reply ≡ true
   reply_right p q c l low h = eq-eqb (opening_words s p (Args q c 1)) (index_of (Entry q c 0)) (opening_reply s p q c l low h)
 
-  first_line : (p q c : ℕ) (l : Link) → p < s.count → q < s.count → HasLink s p q c l → Line first_session first_session (first_area p q c) (first_area q p c) (opened_record l ∷ []) (opened_record (mirror p l) ∷ []) (view (warm_end p l)) (view (warm_end q (mirror p l)))
+  first_line : (p q c : ℕ) (l : Link) → p < s.count → q < s.count → HasLink s p q c l → Line first_session first_session (first_area p q c) (first_area q p c) (opened_record l ∷ []) (opened_record (mirror p l) ∷ []) (view (warm_end (new_at p q) l)) (view (warm_end (new_at q p) (mirror p l)))
   first_line p q c l lp lq h =
       let z = (line s p q c l law h).size in
-      let S : Kinds → Kinds → Type 0 = λ u v. Sound (control (warm_end p l)) (control (warm_end q (mirror p l))) (five u) (five v) in
+      let S : Kinds → Kinds → Type 0 = λ u v. Sound (control (warm_end (new_at p q) l)) (control (warm_end (new_at q p) (mirror p l))) (five u) (five v) in
       record {
         meet = refl;
         their_meet = refl;
         flags = subst (λ (u : Kinds). S u (first_area q p c).flags) (sym (first_flags p q c)) (subst (λ (v : Kinds). S no_kinds v) (sym (first_flags q p c)) warm_sound);
         rest = record {
-          sends = first_way p q l (mirror p l) (first_area p q c).ring (first_area q p c).ring z refl refl (counter_zero s p q c 1) (counter_zero s q p c 0);
-          gets = first_way q p (mirror p l) l (first_area q p c).ring (first_area p q c).ring z refl refl (counter_zero s q p c 1) (counter_zero s p q c 0);
-          mine = first_mine p l (first_area p q c).ring;
-          theirs = first_mine q (mirror p l) (first_area q p c).ring;
+          sends = first_way (new_at p q) (new_at q p) l (mirror p l) (first_area p q c).ring (first_area q p c).ring z refl refl (counter_zero s p q c 1) (counter_zero s q p c 0);
+          gets = first_way (new_at q p) (new_at p q) (mirror p l) l (first_area q p c).ring (first_area p q c).ring z refl refl (counter_zero s q p c 1) (counter_zero s p q c 0);
+          mine = first_mine (new_at p q) l (first_area p q c).ring;
+          theirs = first_mine (new_at q p) (mirror p l) (first_area q p c).ring;
         };
         argued = (let back = mirrored s p q c l law h in record {
-          mine = first_said (first_area p q c).sheet p l z (opening_request s p q c l lp h) (reply_right p q c l lp h);
-          theirs = first_said (first_area q p c).sheet q (mirror p l) z (opening_request s q p c (mirror p l) lq back) (reply_right q p c (mirror p l) lq back);
-          heard = first_heard (first_area p q c).sheet p q l (mirror p l) refl;
-          hears = first_heard (first_area q p c).sheet q p (mirror p l) l refl;
+          mine = first_said (first_area p q c).sheet (new_at p q) l z (opening_request s p q c l lp h) (reply_right p q c l lp h);
+          theirs = first_said (first_area q p c).sheet (new_at q p) (mirror p l) z (opening_request s q p c (mirror p l) lq back) (reply_right q p c (mirror p l) lq back);
+          heard = first_heard (first_area p q c).sheet (new_at p q) (new_at q p) l (mirror p l) refl;
+          hears = first_heard (first_area q p c).sheet (new_at q p) (new_at p q) (mirror p l) l refl;
         });
       }
 
@@ -252,7 +281,7 @@ module _ (s : Scenario) (law : IsLawful s) where
 
   -- a line with a link
   linked_posture : (p q : ℕ) → q < s.count → is_linked (links_of s p) q ≡ true → posture (peer_of (opened_state (part_of s p)) q) ≡ warm_posture
-  linked_posture p q l t = start_at s.count p (links_of s p) q l ∙ ap (λ (b : Bool). cond b warm_posture (base_posture (links_of s p))) t
+  linked_posture p q l t = start_at s.count (opened_new (part_of s p)) (links_of s p) q l ∙ ap (λ (b : Bool). cond b warm_posture (base_posture (links_of s p))) t
 
   one_name : (u v : Session) → has u v (at first_session first_session 0 ∷ []) ≡ true → (u ≡ first_session) × (v ≡ first_session)
   one_name u v h = meeting_at u v first_session first_session 0 (or_none _ h) where
@@ -263,8 +292,8 @@ module _ (s : Scenario) (law : IsLawful s) where
   abbrev Warm_named : Posture → Side → Area → End → Type 0
   Warm_named o j x e = (life : Life) (z : Six) → stamp_by life z.stamp ≡ 1 → Named (record { life = life; x = known (stamp_by life z.stamp) o.engage; contact = o.contact; magic = z.magic; one = z.one; two = z.two; bit = z.bit }) j x (at first_session first_session 0 ∷ []) (at first_session first_session 0 ∷ []) e
 
-  warm_named : (j : Side) (x : Area) (part : ℕ) (l : Link) → IsRequestSize l.entries l.limit → five x.flags ≡ no_five → Warm_named warm_posture j x (warm_end part l)
-  warm_named j x part l size zero life z one = record {
+  warm_named : (j : Side) (x : Area) (new : Bool) (l : Link) → IsRequestSize l.entries l.limit → five x.flags ≡ no_five → Warm_named warm_posture j x (warm_end new l)
+  warm_named j x new l size zero life z one = record {
     met = λ m e. e;
     size = λ k e. (let same : size_of l ≡ k = cc in subst (λ (m : Size). IsRequestSize m.entries m.limit) same size);
     own_used = λ u v h. subst (λ (k : Session). session_word k < stamp_by life z.stamp * 4294967296 + 2) (sym (one_name u v h).0) (omega (arith, one));
@@ -275,7 +304,10 @@ module _ (s : Scenario) (law : IsLawful s) where
     flags = λ o. inl zero;
   }
 
-  linked_fine : (p q c : ℕ) (l : Link) → Joined p q c → HasLink s p q c l → T p q c (opened_record l ∷ []) (opened_record (mirror p l) ∷ []) (warm_end p l) (warm_end q (mirror p l))
+  alone : (o : Posture) → o ≡ warm_posture → o.contact ≡ None → ⊥
+  alone o e n = let t : Some first_contact ≡ None = sym (ap (λ (x : Posture). x.contact) e) ∙ n in absurd (cc)
+
+  linked_fine : (p q c : ℕ) (l : Link) → Joined p q c → HasLink s p q c l → T p q c (opened_record l ∷ []) (opened_record (mirror p l) ∷ []) (warm_end (new_at p q) l) (warm_end (new_at q p) (mirror p l))
   linked_fine p q c l h k =
       let back = mirrored s p q c l law k in
       let size = (line s p q c l law k).size in
@@ -288,20 +320,59 @@ module _ (s : Scenario) (law : IsLawful s) where
       let z = six (opening_words s) p q in
       let turned : Six = record { magic = z.their_magic; one = z.their_one; two = z.their_two; bit = z.their_bit; their_magic = z.magic; their_one = z.one; their_two = z.two; their_bit = z.bit; stamp = z.their_stamp; their_stamp = z.stamp } in
       let W : Posture → Area → Side → End → Type 0 = λ o x j e. Warm_named o j x e in
-      let a : Named (sp p q) (sq p q) (first_area p q c) _ _ (warm_end p l) = subst (λ (o : Posture). Warm_named o (sq p q) (first_area p q c) (warm_end p l)) (sym mine) (warm_named (sq p q) (first_area p q c) p l size (five_zero p q c)) (opening_life (links_of s p)) z stamp in
-      let b : Named (sq p q) (sp p q) (first_area q p c) _ _ (warm_end q (mirror p l)) = subst (λ (o : Posture). Warm_named o (sp p q) (first_area q p c) (warm_end q (mirror p l))) (sym theirs) (warm_named (sp p q) (first_area q p c) q (mirror p l) size (five_zero q p c)) (opening_life (links_of s q)) turned their_stamp in
-      let alone : (o : Posture) → o ≡ warm_posture → o.contact ≡ None → ⊥ = λ o e n. (let t : Some first_contact ≡ None = sym (ap (λ (x : Posture). x.contact) e) ∙ n in absurd (cc)) in
+      let a : Named (sp p q) (sq p q) (first_area p q c) _ _ (warm_end (new_at p q) l) = subst (λ (o : Posture). Warm_named o (sq p q) (first_area p q c) (warm_end (new_at p q) l)) (sym mine) (warm_named (sq p q) (first_area p q c) (new_at p q) l size (five_zero p q c)) (opening_life (links_of s p)) z stamp in
+      let b : Named (sq p q) (sp p q) (first_area q p c) _ _ (warm_end (new_at q p) (mirror p l)) = subst (λ (o : Posture). Warm_named o (sp p q) (first_area q p c) (warm_end (new_at q p) (mirror p l))) (sym theirs) (warm_named (sp p q) (first_area q p c) (new_at q p) (mirror p l) size (five_zero q p c)) (opening_life (links_of s q)) turned their_stamp in
       record {
         both = both_at p q c h;
         mine = a;
         theirs = b;
-        room = λ d. record { own = first_session; theirs = first_session; a = warm_end p l; b = warm_end q (mirror p l); here = λ i. refl; there = λ i. refl; late = λ w. absurd (alone (posture (peer_of (opened_state (part_of s p)) q)) mine w.alone); their_late = λ w. absurd (alone (posture (peer_of (opened_state (part_of s q)) p)) theirs w.alone); line = first_line p q c l h.first h.second k };
+        room = λ d. record { own = first_session; theirs = first_session; a = warm_end (new_at p q) l; b = warm_end (new_at q p) (mirror p l); here = λ i. refl; there = λ i. refl; late = λ w. absurd (alone (posture (peer_of (opened_state (part_of s p)) q)) mine w.alone); their_late = λ w. absurd (alone (posture (peer_of (opened_state (part_of s q)) p)) theirs w.alone); line = first_line p q c l h.first h.second k };
         late = λ w. absurd (alone (posture (peer_of (opened_state (part_of s p)) q)) mine w.alone);
         their_late = λ w. absurd (alone (posture (peer_of (opened_state (part_of s q)) p)) theirs w.alone);
         sends = λ n. first_front l (mirror p l) n;
         gets = λ n. first_front (mirror p l) l n;
         apart = (tt, tt);
         their_apart = (tt, tt);
+      }
+
+  -- a line without a link of two partitions that have one: both ends are in contact, and nothing happened
+  abbrev Met_named : Posture → Side → Area → End → Type 0
+  Met_named o j x e = (life : Life) (z : Six) → Named (record { life = life; x = known (stamp_by life z.stamp) o.engage; contact = o.contact; magic = z.magic; one = z.one; two = z.two; bit = z.bit }) j x [] [] e
+
+  met_named : (j : Side) (x : Area) (new : Bool) → five x.flags ≡ no_five → Met_named warm_posture j x (first_met new idle_end)
+  met_named j x new zero life z = record { met = λ m e. e; size = λ k e. absurd (cc); own_used = λ u v e. absurd (cc); their_used = λ v u e. absurd (cc); unused = λ w u v e. absurd (cc); echoed = λ r v u e. absurd (cc); blank = λ o p. zero; flags = λ o. inl zero }
+
+  no_size : HasSize idle_end
+  no_size z e = absurd (cc)
+
+  met_line : (p q c : ℕ) → Line first_session first_session (first_area p q c) (first_area q p c) [] [] (view (first_met (new_at p q) idle_end)) (view (first_met (new_at q p) idle_end))
+  met_line p q c =
+      let u = first_session in
+      let x = first_area p q c in
+      let y = first_area q p c in
+      let one = registered (new_at p q) u u x y [] [] idle_end (fresh u u) no_size (fresh_line u u x y [] [] refl refl (five_zero p q c) (five_zero q p c)) in
+      let mine = view (first_met (new_at p q) idle_end) in
+      line_turned u u y x [] [] (view (first_met (new_at q p) idle_end)) mine (registered (new_at q p) u u y x [] [] idle_end mine no_size (line_turned u u x y [] [] mine (fresh u u) one))
+
+  met_fine : (p q c : ℕ) → Joined p q c → is_linked (links_of s p) q ≡ true → is_linked (links_of s q) p ≡ true → T p q c [] [] (first_met (new_at p q) idle_end) (first_met (new_at q p) idle_end)
+  met_fine p q c h there back =
+      let mine = linked_posture p q h.second there in
+      let theirs = linked_posture q p h.first back in
+      let z = six (opening_words s) p q in
+      let turned : Six = record { magic = z.their_magic; one = z.their_one; two = z.their_two; bit = z.their_bit; their_magic = z.magic; their_one = z.one; their_two = z.two; their_bit = z.bit; stamp = z.their_stamp; their_stamp = z.stamp } in
+      let a : Named (sp p q) (sq p q) (first_area p q c) [] [] (first_met (new_at p q) idle_end) = subst (λ (o : Posture). Met_named o (sq p q) (first_area p q c) (first_met (new_at p q) idle_end)) (sym mine) (met_named (sq p q) (first_area p q c) (new_at p q) (five_zero p q c)) (opening_life (links_of s p)) z in
+      let b : Named (sq p q) (sp p q) (first_area q p c) [] [] (first_met (new_at q p) idle_end) = subst (λ (o : Posture). Met_named o (sp p q) (first_area q p c) (first_met (new_at q p) idle_end)) (sym theirs) (met_named (sp p q) (first_area q p c) (new_at q p) (five_zero q p c)) (opening_life (links_of s q)) turned in
+      record {
+        both = both_at p q c h;
+        mine = a;
+        theirs = b;
+        room = λ d. record { own = first_session; theirs = first_session; a = first_met (new_at p q) idle_end; b = first_met (new_at q p) idle_end; here = λ i. refl; there = λ i. refl; late = λ w. absurd (alone (posture (peer_of (opened_state (part_of s p)) q)) mine w.alone); their_late = λ w. absurd (alone (posture (peer_of (opened_state (part_of s q)) p)) theirs w.alone); line = met_line p q c };
+        late = λ w. absurd (alone (posture (peer_of (opened_state (part_of s p)) q)) mine w.alone);
+        their_late = λ w. absurd (alone (posture (peer_of (opened_state (part_of s q)) p)) theirs w.alone);
+        sends = λ k. ([], refl);
+        gets = λ k. ([], refl);
+        apart = tt;
+        their_apart = tt;
       }
 
   -- a channel of two partitions has a link, or none
@@ -311,10 +382,18 @@ module _ (s : Scenario) (law : IsLawful s) where
       let z : [] ≡ l ∷ [] = sym none ∙ k in
       absurd (cc)
 
-  idle_start : (p q c : ℕ) → link_in p q c s.warms ≡ [] → end_of (opened_state (part_of s p)) q c ≡ idle_end
-  idle_start p q c none = elim (opened_or (part_of s p) q c) [
+  idle_start : (p q c : ℕ) → link_in p q c s.warms ≡ [] → is_linked (links_of s p) q ≡ false → end_of (opened_state (part_of s p)) q c ≡ idle_end
+  idle_start p q c none away = elim (opened_or (part_of s p) q c) [
     | inl e ↦ e
-    | inr o ↦ absurd (no_link p q c none o.at.number o.link o.at.listed o.at.partner o.at.channel)
+    | inr (inl o) ↦ let t = linked_by (links_of s p) q o.number o.link o.listed o.partner in absurd (cc)
+    | inr (inr o) ↦ absurd (no_link p q c none o.at.number o.link o.at.listed o.at.partner o.at.channel)
+  ]
+
+  met_start : (p q c : ℕ) → Joined p q c → link_in p q c s.warms ≡ [] → is_linked (links_of s p) q ≡ true → end_of (opened_state (part_of s p)) q c ≡ first_met (new_at p q) idle_end
+  met_start p q c h none there = elim (opened_or (part_of s p) q c) [
+    | inl e ↦ let t = linked_met (part_of s p) q c h.second h.channel there in let f = ap (λ (x : End). is_some x.shake.meet) e in absurd (cc)
+    | inr (inl o) ↦ o.is
+    | inr (inr o) ↦ absurd (no_link p q c none o.at.number o.link o.at.listed o.at.partner o.at.channel)
   ]
 
   idle_records : (p q c : ℕ) → link_in p q c s.warms ≡ [] → opened_records (links_of s p) q c ≡ []
@@ -336,7 +415,10 @@ module _ (s : Scenario) (law : IsLawful s) where
         no_link p q c none back.number (mirror q k.0) back.listed back.partner back.channel
 
     by : (link_in p q c s.warms ≡ []) ⊎ ((l : Link) × (link_in p q c s.warms ≡ l ∷ []) × (l.partner ≡ q) × (l.channel ≡ c)) → (link_in q p c s.warms ≡ []) ⊎ ((l : Link) × (link_in q p c s.warms ≡ l ∷ []) × (l.partner ≡ p) × (l.channel ≡ c)) → T p q c ((part_opened (part_of s p)).books q c) ((part_opened (part_of s q)).books p c) (end_of (opened_state (part_of s p)) q c) (end_of (opened_state (part_of s q)) p c)
-    by (inl none) (inl their) = all_four (T p q c) _ _ _ _ _ _ _ _ (sym (idle_records p q c none)) (sym (idle_records q p c their)) (sym (idle_start p q c none)) (sym (idle_start q p c their)) (idle_fine p q c h)
+    by (inl none) (inl their) = unlinked (is_linked (links_of s p) q) refl where
+      unlinked : (b : Bool) → is_linked (links_of s p) q ≡ b → T p q c ((part_opened (part_of s p)).books q c) ((part_opened (part_of s q)).books p c) (end_of (opened_state (part_of s p)) q c) (end_of (opened_state (part_of s q)) p c)
+      unlinked false t = all_four (T p q c) _ _ _ _ _ _ _ _ (sym (idle_records p q c none)) (sym (idle_records q p c their)) (sym (idle_start p q c none t)) (sym (idle_start q p c their (linked_both s law q p ∙ t))) (idle_fine p q c h)
+      unlinked true t = let r = linked_both s law q p ∙ t in all_four (T p q c) _ _ _ _ _ _ _ _ (sym (idle_records p q c none)) (sym (idle_records q p c their)) (sym (met_start p q c h none t)) (sym (met_start q p c (turned p q c h) their r)) (met_fine p q c h t r)
     by (inl none) (inr k) = absurd (none_back none k)
     by (inr k) o =
         let i = listed s p q c k.0 k.1 h.second h.channel in
@@ -345,7 +427,7 @@ module _ (s : Scenario) (law : IsLawful s) where
         all_four (T p q c) _ _ _ _ _ _ _ _ (sym (start_records s p q c k.0 link)) (sym (start_records s q p c (mirror p k.0) back)) (sym (start_end s p q c k.0 law link)) (sym (start_end s q p c (mirror p k.0) law back)) (linked_fine p q c k.0 h link)
 
   first_clean : (p q : ℕ) → q < s.count → IsUnrefused (peer_of (opened_state (part_of s p)) q).engage.reason
-  first_clean p q l = subst (λ (o : Posture). IsUnrefused o.engage.reason) (sym (start_at s.count p (links_of s p) q l)) (by (is_linked (links_of s p) q)) where
+  first_clean p q l = subst (λ (o : Posture). IsUnrefused o.engage.reason) (sym (start_at s.count (opened_new (part_of s p)) (links_of s p) q l)) (by (is_linked (links_of s p) q)) where
     by : (b : Bool) → IsUnrefused (cond b warm_posture (base_posture (links_of s p))).engage.reason
     by true = tt
     by false = base (links_of s p)
@@ -365,7 +447,7 @@ module _ (s : Scenario) (law : IsLawful s) where
 
   first_stands : (p q : ℕ) → q < s.count → p < s.count → Stands (RightAt (opening_words s p) q) (Right (opening_words s q) p) (peer_of (opened_state (part_of s p)) q)
   first_stands p q lq lp =
-      subst (λ (o : Posture). StandsBy p q o.engage) (sym (start_at s.count p (links_of s p) q lq)) (by (is_linked (links_of s p) q) refl)
+      subst (λ (o : Posture). StandsBy p q o.engage) (sym (start_at s.count (opened_new (part_of s p)) (links_of s p) q lq)) (by (is_linked (links_of s p) q) refl)
     where
       none : (n : ℕ) → bit_at 0 n ≡ 1 → ⊥
       none n e = omega (arith, bit_at-zero n, e)
@@ -422,8 +504,19 @@ module _ (s : Scenario) (law : IsLawful s) where
   end_settled : (w : Words) (a b : Part) (p q c : ℕ) → FineAt s.count Joined turned apart bound w a b p q c → is_some (end_of a.state q c).shake.meet ≡ true → IsSettled (end_of a.state q c)
   end_settled w a b p q c h on =
       let r = h.room (inl on) in
-      let k = subst (λ (v : View). SaidBy (area_at (w p) q c).sheet v.terms) (r.here on) r.line.argued.mine in
-      record { size = k.size; registered = k.stands; copies = k.idle; equal = k.equal }
+      let e = end_of a.state q c in
+      let l = subst (λ (v : View). Line r.own r.theirs (area_at (w p) q c) (area_at (w q) p c) (a.books q c) (b.books p c) v (view r.b)) (r.here on) r.line in
+      let k = l.argued.mine in
+      let there : e.shake.sent.open_reply ≡ true → agreed e.shake ≡ agreed_by e.shake.both_new (limit_in e.shake.own_size) (limit_in e.shake.their_size) = λ t. (let f = l.flags.fit_a.orep t in agreed_there e.shake.sent.open_request e.shake.got.open_request e.shake.both_new _ _ f.0 f.1) in
+      let settled : e.shake.sent.open_complete ≡ true → agreed e.shake ≡ Some (lesser (limit_in e.shake.own_size) (limit_in e.shake.their_size)) = λ t. (let o = (l.flags.fit_a.ocomp t).0 in there o ∙ agreed_is e.shake.both_new _ _ (k.limit o)) in
+      record {
+        size = k.size;
+        registered = k.stands;
+        copies = k.idle;
+        limit = λ t. ap (λ (o : Option ℕ). is_some o) (there t) ∙ k.limit t;
+        entries = λ t. (ap (λ (z : Size). z.entries) (k.sides t).0, ap (λ (z : Size). z.entries) (k.sides t).1);
+        limits = λ t. (settled t ∙ ap (λ (z : Size). Some z.limit) (sym (k.sides t).0), settled t ∙ ap (λ (z : Size). Some z.limit) (sym (k.sides t).1));
+      }
 
   -- the same of a step in a turn
   abbrev pub Holds : Words → (ℕ → Part) → Type 0

@@ -16,7 +16,7 @@ use Rattle.xp_promises.proofs.FlagEnds.{Kinds as Five, End as Control, no_kinds 
 use Rattle.xp_promises.proofs.FlagKept.{Sound}
 use Rattle.xp_base.specs.declared.session.Session.{Session}
 use Rattle.std.proofs.lemmas.Bool.{and_parts, cases_Bool}
-use Rattle.xp_protocol.specs.Promised.{IsUnrefused, Name, exchanged, is_session, is_meeting, by_name, IsPrefixOf}
+use Rattle.xp_protocol.specs.Promised.{IsUnrefused, size_sent, size_got, Name, exchanged, is_session, is_meeting, by_name, IsPrefixOf}
 use Rattle.xp_promises.proofs.Direction.{taken_prefix}
 use Rattle.xp_promises.proofs.Fields.{RightAt, Right, Stands, map_stands}
 use Rattle.xp_protocol.specs.declared.rule.RecordField.{RecordField}
@@ -63,7 +63,7 @@ control e = record { registered = is_some e.registration; epoch = e.epoch; sent 
 
 -- what arguments and sizes read of it
 abbrev pub terms : End → Terms
-terms e = record { epoch = e.epoch; sent = five e.shake.sent; got = five e.shake.got; taken = five e.shake.taken; reason = e.shake.reason; registration = e.registration; own = out_size e.sides.send; their = in_size e.sides.pull; request = e.shake.request; reply = e.shake.reply; code = e.shake.code; request_put = e.shake.request_put; reply_put = e.shake.reply_put; code_put = e.shake.code_put; copying = is_copying e.sides.pull }
+terms e = record { epoch = e.epoch; sent = five e.shake.sent; got = five e.shake.got; taken = five e.shake.taken; new = e.shake.both_new; reason = e.shake.reason; registration = e.registration; own = size_sent e; their = size_got e; sending = out_size e.sides.send; pulling = in_size e.sides.pull; request = e.shake.request; reply = e.shake.reply; code = e.shake.code; request_put = e.shake.request_put; reply_put = e.shake.reply_put; code_put = e.shake.code_put; copying = is_copying e.sides.pull }
 
 pub record View : Type 0 where
   pub meet : Option Contact
@@ -88,12 +88,12 @@ pub record Line (u v : Session) (x y : Area) (rs ss : List Recorded) (a b : View
 pub turned_flags : (a b : Control) (u v : Five) → Sound a b u v → Sound b a v u
 turned_flags a b u v h = record { to_b = h.to_a; to_a = h.to_b; fit_a = h.fit_b; fit_b = h.fit_a; open_a = h.open_b; open_b = h.open_a }
 
-turned : (u v : Session) (x y : Area) (rs ss : List Recorded) (a b : View) → Line u v x y rs ss a b → Line v u y x ss rs b a
+pub turned : (u v : Session) (x y : Area) (rs ss : List Recorded) (a b : View) → Line u v x y rs ss a b → Line v u y x ss rs b a
 turned u v x y rs ss a b h = record { meet = h.their_meet; their_meet = h.meet; flags = turned_flags a.control b.control (five x.flags) (five y.flags) h.flags; rest = rest_turned u v x.ring y.ring rs ss a.parts b.parts h.rest; argued = argued_turned x.sheet y.sheet a.terms b.terms h.argued }
 
--- an end that has just come into a contact
+-- an end that has just come into a contact, or that will: what it knows of the versions counts later
 abbrev pub fresh : Session → Session → View
-fresh u v = view (joined_end (record { own = u; theirs = v }) idle_end)
+fresh u v = view (joined_end false (record { own = u; theirs = v }) idle_end)
 
 -- the contact of two ends, of which each is in it still, or left it, or hasn't come yet: then it waits for it under the room's session, and is fresh
 pub record Room (i j : Side) (x y : Area) (rs ss : List Recorded) (e g : End) : Type 0 where

@@ -41,7 +41,7 @@ use Rattle.xp_protocol.specs.Sending.{payload_of, next_slot}
 use Rattle.xp_protocol.specs.Pulling.{counters_word}
 use Rattle.xp_protocol.specs.State.{Reading, State, End, Contact, Old, link_at, end_of, peer_of, Peer}
 use Rattle.xp_protocol.specs.Linking.{argument_word, argument_field, link_can, link_effect, flags_got, link_down}
-use Rattle.xp_protocol.specs.Peering.{is_ready, last_read, Here, left_engage, is_wrong, failed_reason, look_reason, judged, has_shown, fails_for, field_number, say_reason}
+use Rattle.xp_protocol.specs.Peering.{is_ready, last_read, Here, left_engage, is_wrong, failed_reason, look_reason, judged, has_shown, fails_for, field_number, say_reason, end_reason, with_flags}
 use Rattle.xp_protocol.specs.State.{set_link}
 use Rattle.xp_protocol.specs.Rules.{numbered}
 use Rattle.xp_protocol.specs.declared.contact.Look.{Look}
@@ -623,10 +623,15 @@ module _ (s : Scenario) (lawful : (p : ℕ) → p < s.count → IsLawfulPart (pa
     with_clean : (o : Option Reason) (p : Peer) → CleanAt p → IsUnrefused o → CleanAt (with_reason o p)
     with_clean o p h k = first_clean p.engage.reason _ h (ready_clean (is_ready p.engage.area) o k)
 
+    end_clean : (seen : ℕ) (o : Option Reason) → IsUnrefused o → IsUnrefused (end_reason seen o)
+    end_clean seen None h = tt
+    end_clean seen (Some (BadFlags w)) h = absurd h
+    end_clean seen (Some r) h = h
+
     clean_link : (k d : ℕ) (m : LinkRule) (x : Answer) → k < s.count → (k ≡ a → ⊥) → d < 4 → IsUnrefused (link_answered (mark_of su st (Link k d m)) (place_for su d) (end_of st k d) m x).reason → (q c : ℕ) → line a q c → CleanAt (peer_of (after_answer su st (Link k d m) x) q)
     clean_link k d m x lk n ld new q c l =
         let f = link_answered (mark_of su st (Link k d m)) (place_for su d) (end_of st k d) m x in
-        at_peer CleanAt st.peers k _ q (λ e. with_clean f.reason (set_link (numbered (mark_of su st (Link k d m)) d (peer_of st k)) d f.local) (old k d (line_at k d lk n ld)) new) (old q c l)
+        at_peer CleanAt st.peers k _ q (λ e. with_clean (end_reason (peer_of st k).flags_seen f.reason) (set_link (numbered (mark_of su st (Link k d m)) d (peer_of st k)) d f.local) (old k d (line_at k d lk n ld)) (end_clean (peer_of st k).flags_seen f.reason new)) (old q c l)
 
     links_clean : (f : ℕ → End → Effect End (List Note)) (p : Peer) → ((c : ℕ) → c < 4 → IsUnrefused (f c (link_at p.links c)).reason) → IsUnrefused (links_reason f p)
     links_clean f p each = first_clean (f 0 (link_at p.links 0)).reason _ (each 0 (omega arith)) (first_clean (f 1 (link_at p.links 1)).reason _ (each 1 (omega arith)) (first_clean (f 2 (link_at p.links 2)).reason _ (each 2 (omega arith)) (each 3 (omega arith))))
@@ -705,7 +710,7 @@ module _ (s : Scenario) (lawful : (p : ℕ) → p < s.count → IsLawfulPart (pa
         let l = line_at k 0 lk n (omega arith) in
         let by : ℕ → End → Effect End (List Note) = λ d e. flags_got (kinds_in v d) e in
         let P : Bool → Type 0 = λ z. CleanFor (cond z (record { local = peer_of st k; reason = Some (BadFlags v); notes = λ c. [] }) (flags_taken v (peer_of st k))) in
-        subst P (sym (unspoilt v (good.words a k 0 l))) (old k 0 l, links_clean by (peer_of st k) (λ c lc. takes_clean (mine k c) (theirs k c) k c (end_of st k c) (my_side k) (their_side k) ((σ a).books k c) ((σ k).books a c) (end_of (σ k).state a c) (good.fine a k c (line_at k c lk n lc))))
+        subst P (sym (unspoilt v (good.words a k 0 l))) (old k 0 l, end_clean (with_flags v (peer_of st k)).flags_seen (links_reason by (peer_of st k)) (links_clean by (peer_of st k) (λ c lc. takes_clean (mine k c) (theirs k c) k c (end_of st k c) (my_side k) (their_side k) ((σ a).books k c) ((σ k).books a c) (end_of (σ k).state a c) (good.fine a k c (line_at k c lk n lc)))))
 
     -- the words of records that say where the memory is
     rights : (r : Rule) → (p q : ℕ) (z : RecordField) → RightAt (w p) q z → RightAt (words_after r p) q z

@@ -16,7 +16,7 @@ use Rattle.xp_script.specs.declared.scenario.Scenario.{Scenario}
 use Rattle.xp_script.specs.Parts.{part_of}
 use Rattle.xp_script.specs.Lawful.{IsLawful}
 use Rattle.xp_protocol.specs.Records.{Recorded}
-use Rattle.xp_protocol.specs.State.{State, Old, End, Peer, cold_peer, idle_end, warm_end, opened_state, is_begun, end_of, peer_of, link_at}
+use Rattle.xp_protocol.specs.State.{State, Old, End, Peer, cold_peer, idle_end, warm_end, first_met, opened_state, is_begun, end_of, peer_of, link_at}
 use Rattle.xp_protocol.specs.Linking.{booted_end}
 use Rattle.xp_protocol.specs.Peering.{booted_peer}
 use Rattle.xp_protocol.specs.Acts.{notice_due}
@@ -46,7 +46,7 @@ booted_due st su q c how =
     (λ l. subst (λ (e : End). notice_due how e ≡ None) (sym (idle_at c)) (fresh_due idle_end refl refl how))
 
 opened_due : (su : ScenarioPart) (q c : ℕ) (how : NoticeKind) → notice_due how (end_of (opened_state su) q c) ≡ None
-opened_due su q c how = opened_fact su q c (λ e. notice_due how e ≡ None) (fresh_due idle_end refl refl how) (λ l. fresh_due (warm_end su.part l) refl refl how)
+opened_due su q c how = opened_fact su q c (λ e. notice_due how e ≡ None) (fresh_due idle_end refl refl how) (λ new. fresh_due (first_met new idle_end) refl refl how) (λ new l. fresh_due (warm_end new l) refl refl how)
 
 pub first_due : (su : ScenarioPart) (q c : ℕ) (how : NoticeKind) → notice_due how (end_of (start su) q c) ≡ None
 first_due su q c how =

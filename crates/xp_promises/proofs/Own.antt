@@ -39,14 +39,14 @@ use Rattle.xp_protocol.specs.Sending.{Sending, is_bad_get, is_full, get_loaded, 
 use Rattle.xp_protocol.specs.Pulling.{Pulling, counters_pulled, entry_pulled, words_each, run_now, run_fault, run_copied, is_bad_put, take_due, shown_empty, take_refusal}
 use Rattle.xp_protocol.specs.Releasing.{Releasing, new_releasing, is_held, message_released, release_refusal}
 use Rattle.xp_protocol.specs.State.{End, Size, Replied, Contact, is_begun, any_kind, is_connected, may_copy, link_of, size_in}
-use Rattle.xp_protocol.specs.Linking.{hears, by_send, by_pull, sender_counters, release_notes, acknowledged, down_notes, down_end, close_now, link_closed, link_down, over_note, over_notes, link_finished, link_joined, booted_end, open_notes, opened_notes, channel_closed, epoch_over, is_ended, unequal, are_unequal, changed, request_handled, reply_handled, code_handled, is_request, is_code, kind_got, kind_refused, refused, well_handled, handled, has_argument, handled_next, settle, settled as all_settled, joined_notes, connection_noted, with_taken, flags_got, end_sent, with_sent, control_sent, owed, flag_sent, with_argument, argument_stored, link_can, link_effect, copy_failed}
+use Rattle.xp_protocol.specs.Linking.{hears, by_send, by_pull, sender_counters, release_notes, acknowledged, down_notes, down_end, close_now, link_closed, link_down, over_note, over_notes, link_finished, link_joined, booted_end, open_notes, opened_notes, channel_closed, epoch_over, is_ended, unequal, are_unequal, changed, request_handled, reply_handled, code_handled, is_request, is_code, kind_got, kind_refused, refused, well_handled, handled, has_argument, handled_next, settle, settled as all_settled, joined_notes, connection_noted, with_taken, flags_got, end_sent, with_sent, control_sent, owed, flag_sent, with_argument, argument_stored, link_can, link_effect, copy_failed, parted, limit_in}
 use Rattle.xp_protocol.specs.Rules.{link_answered, end_failed, copy_error}
 use Rattle.xp_protocol.specs.Acts.{say, send_begun, take_begun, release_begun, release_held, drain_begun, drain_refusal, register_begun, unregister_begun, withdrawn, refused_send, end_begun, end_answered, taken_by, take_found, take_answered, notice_due, below, without_first, end_noticed}
 use Rattle.xp_protocol.specs.Promised.{AreRising}
 use Rattle.xp_meetings.proofs.Parts.{notes_more}
 use Rattle.xp_promises.proofs.Steps.{AreSilent, silent_notes, silent_hears, open_connected, open_copy, connected}
 use Rattle.xp_promises.proofs.Lines.{Area}
-use Rattle.xp_promises.proofs.Shakes.{down_silent}
+use Rattle.xp_promises.proofs.Shakes.{down_silent, owed_agreed}
 use Rattle.xp_promises.proofs.Freed.{Freed, freed_released, freed_held, unrefused_held}
 use Rattle.xp_promises.proofs.Notices.{Told, told_none, told_known, told_unasked, told_asked, told_one}
 
@@ -58,9 +58,10 @@ pub record Facts : Type 0 where
   pub put : ℕ
   pub known : ℕ
   pub requested : Bool  -- whether the open request was sent, or a reason stands
+  pub opened : Bool  -- whether the open complete was sent
 
 abbrev pub facts : End → Facts
-facts e = record { ack = e.sides.ack; pending = e.sides.pending_notices; get = e.sides.local_get; put = e.sides.send.put; known = e.sides.send.remote_get; requested = is_some e.shake.reason || e.shake.sent.open_request }
+facts e = record { ack = e.sides.ack; pending = e.sides.pending_notices; get = e.sides.local_get; put = e.sides.send.put; known = e.sides.send.remote_get; requested = is_some e.shake.reason || e.shake.sent.open_request; opened = e.shake.sent.open_complete }
 
 -- the record of a connection that goes on
 pub record Live (v : Facts) (r : Recorded) : Type 0 where
@@ -70,6 +71,7 @@ pub record Live (v : Facts) (r : Recorded) : Type 0 where
   pub ended : r.ended ≡ []
   pub over : r.over ≡ None
   pub requested : v.requested ≡ true
+  pub unopened : v.opened ≡ false → (v.put ≡ 0) × (v.known ≡ 0)
 
 -- an end at which nothing was begun
 pub record Idle (v : Facts) : Type 0 where
@@ -130,10 +132,24 @@ as_requested v = record v { requested = true }
 
 requested_live : (v : Facts) (rs : List Recorded) → LiveIn v rs → LiveIn (as_requested v) rs
 requested_live v [] h = absurd h
-requested_live v (r ∷ rs) h = (record { freed = h.0.freed; acked = h.0.acked; told = h.0.told; ended = h.0.ended; over = h.0.over; requested = refl }, h.1)
+requested_live v (r ∷ rs) h = (record { freed = h.0.freed; acked = h.0.acked; told = h.0.told; ended = h.0.ended; over = h.0.over; requested = refl; unopened = h.0.unopened }, h.1)
 
 requested_local : (v : Facts) (rs : List Recorded) → Local true v rs → Local true (as_requested v) rs
 requested_local v rs h = record { live = λ t. requested_live v rs (h.live refl); idle = λ t. absurd (cc) }
+
+-- an end that hasn't sent the open complete has accepted nothing, and knows of nothing that was acknowledged
+abbrev as_opened : Facts → Facts
+as_opened v = record v { put = 0; known = 0; opened = true }
+
+opened_live : (v : Facts) (rs : List Recorded) → v.opened ≡ false → LiveIn v rs → LiveIn (as_opened v) rs
+opened_live v [] off h = absurd h
+opened_live v (r ∷ rs) off h =
+    let z = h.0.unopened off in
+    let told = subst (λ (k : ℕ). Told r.asked r.delivered v.pending k 0) z.1 (subst (λ (n : ℕ). Told r.asked r.delivered v.pending v.known n) z.0 h.0.told) in
+    (record { freed = h.0.freed; acked = h.0.acked; told = told; ended = h.0.ended; over = h.0.over; requested = h.0.requested; unopened = λ t. (refl, refl) }, h.1)
+
+opened_local : (v : Facts) (rs : List Recorded) → v.opened ≡ false → Local true v rs → Local true (as_opened v) rs
+opened_local v rs off h = record { live = λ t. opened_live v rs off (h.live refl); idle = λ t. absurd (cc) }
 
 requested_idle : (v : Facts) → Idle v → Idle (as_requested v)
 requested_idle v i = record { ack = i.ack; pending = i.pending; get = i.get; put = i.put; known = i.known }
@@ -150,6 +166,7 @@ new_live v r i a b c d e f g = record {
   ended = e;
   over = f;
   requested = g;
+  unopened = λ t. (i.put, i.known);
 }
 
 pub or_true : (a : Bool) → (a || true) ≡ true
@@ -277,13 +294,13 @@ module _ (q c : ℕ) where
   epochs e on = (on, fresh_idle e (epoch_over e) refl (idle_new _ refl refl refl refl refl) refl)
 
   changes : (e : End) → Keeps e (changed e)
-  changes e = either (is_ended e) e (epoch_over e) (unequal e) (epochs e) (either (are_unequal e) e (channel_closed (UnequalSizes e.sides.send.limit e.sides.pull.limit) e) (just e) (closes_on (UnequalSizes e.sides.send.limit e.sides.pull.limit) e) (calm_on e (just e) refl refl refl tt))
+  changes e = either (is_ended e) e (epoch_over e) (unequal e) (epochs e) (either (are_unequal e) e (channel_closed (UnequalSizes (limit_in e.shake.own_size) (limit_in e.shake.their_size)) e) (just e) (closes_on (UnequalSizes (limit_in e.shake.own_size) (limit_in e.shake.their_size)) e) (calm_on e (just e) refl refl refl tt))
 
   -- a flag is handled
   requests : (o : Option ℕ) (e : End) → Keeps e (request_handled o e)
   requests None e = calm_on e (just e) refl refl refl tt
   requests (Some w) e =
-      let sized : Effect End (List Note) = just (record e { sides = record e.sides { pull = record e.sides.pull { entries = (size_in w).entries; limit = (size_in w).limit; copied = []; run = 0 } } }) in
+      let sized : Effect End (List Note) = just (record e { shake = record e.shake { their_size = Some (size_in w) } }) in
       either (is_request w) e sized (channel_closed (BadArgs w) e) (calm_on e sized refl refl refl tt) (closes_on (BadArgs w) e)
 
   replies : (o : Option Replied) (e : End) → Keeps e (reply_handled o e)
@@ -328,7 +345,7 @@ module _ (q c : ℕ) where
   joined_local b false v rs h = h
   joined_local b true v [] h = h
   joined_local b true v (r ∷ more) h = record {
-    live = λ t. (let k = h.live t in (record { freed = k.0.freed; acked = k.0.acked; told = k.0.told; ended = k.0.ended; over = k.0.over; requested = k.0.requested }, k.1));
+    live = λ t. (let k = h.live t in (record { freed = k.0.freed; acked = k.0.acked; told = k.0.told; ended = k.0.ended; over = k.0.over; requested = k.0.requested; unopened = k.0.unopened }, k.1));
     idle = λ t. (let k = h.idle t in (k.0, (record { rising = k.1.0.rising; told = k.1.0.told; over = k.1.0.over; some = k.1.0.some }, k.1.1)));
   }
 
@@ -351,41 +368,17 @@ module _ (q c : ℕ) where
   sent_begun CloseRequest n e = ap (λ (b : Bool). (e.shake.sent.open_complete || (e.shake.sent.open_request || b)) || is_some e.shake.reason) (or_true e.shake.sent.open_reply) ∙ ap (λ (b : Bool). (e.shake.sent.open_complete || b) || is_some e.shake.reason) (or_true e.shake.sent.open_request) ∙ ap (λ (b : Bool). b || is_some e.shake.reason) (or_true e.shake.sent.open_complete)
   sent_begun CloseReply n e = ap (λ (b : Bool). (e.shake.sent.open_complete || (e.shake.sent.open_request || (e.shake.sent.open_reply || b))) || is_some e.shake.reason) (or_true e.shake.sent.close_request) ∙ ap (λ (b : Bool). (e.shake.sent.open_complete || (e.shake.sent.open_request || b)) || is_some e.shake.reason) (or_true e.shake.sent.open_reply) ∙ ap (λ (b : Bool). (e.shake.sent.open_complete || b) || is_some e.shake.reason) (or_true e.shake.sent.open_request) ∙ ap (λ (b : Bool). b || is_some e.shake.reason) (or_true e.shake.sent.open_complete)
 
-  -- nothing was begun where the open request is owed: the sending side that begins anew is as it was
-  owes_open : (e : End) → owed OpenRequest e ≡ true → (facts e).requested ≡ false
-  owes_open e o = by e.shake.reason e.shake.sent.open_request (and_parts (is_some e.registration) (not (is_some e.shake.reason) && not e.shake.sent.open_request) o).1 where
-    by : (o : Option Reason) (b : Bool) → (not (is_some o) && not b) ≡ true → (is_some o || b) ≡ false
-    by None false h = refl
-    by None true h = absurd (cc)
-    by (Some r) b h = absurd (cc)
-
-  sent_first : (e : End) → (facts e).requested ≡ false → (rs : List Recorded) → Local (is_begun e) (facts e) rs → facts (end_sent OpenRequest e) ≡ as_requested (facts e)
-  sent_first e f rs h = by (is_begun e) refl where
-    by : (b : Bool) → is_begun e ≡ b → facts (end_sent OpenRequest e) ≡ as_requested (facts e)
-    by true t = let z = live_requested (facts e) rs (h.live t) in absurd (cc)
-    by false t =
-        let i = (h.idle t).0 in
-        ap (λ (b : Bool). record (facts e) { put = 0; known = 0; requested = b }) (or_true (is_some e.shake.reason))
-        ∙ ap (λ (n : ℕ). record (facts e) { put = n; known = 0; requested = true }) (sym i.put)
-        ∙ ap (λ (n : ℕ). record (facts e) { known = n; requested = true }) (sym i.known)
-
   -- whatever else is sent, the open request was before, or a reason stands
   live_sent : (e : End) → is_begun e ≡ true → (rs : List Recorded) → Local (is_begun e) (facts e) rs → (facts e).requested ≡ true
   live_sent e b rs h = live_requested (facts e) rs (h.live b)
 
-  sent_facts : (k : Kind) (e : End) → owed k e ≡ true → (k ≡ MsgRequest → ⊥) → (rs : List Recorded) → Local (is_begun e) (facts e) rs → facts (end_sent k e) ≡ as_requested (facts e)
-  sent_facts MsgRequest e o n rs h = absurd (n refl)
-  sent_facts OpenRequest e o n rs h = sent_first e (owes_open e o) rs h
-  sent_facts OpenReply e o n rs h =
-      let a = and_parts (not (is_some e.shake.reason)) _ o in
-      let b = and_parts e.shake.sent.open_request _ a.1 in
-      requested_facts e (ap (λ (x : Bool). is_some e.shake.reason || x) b.0 ∙ or_true (is_some e.shake.reason))
-  sent_facts OpenComplete e o n rs h =
-      let a = and_parts (not (is_some e.shake.reason)) _ o in
-      let b = and_parts e.shake.sent.open_reply _ a.1 in
-      requested_facts e (live_sent e (rw b.0 (ap (λ (x : Bool). (e.shake.sent.open_complete || x) || is_some e.shake.reason) (or_true e.shake.sent.open_request) ∙ ap (λ (x : Bool). x || is_some e.shake.reason) (or_true e.shake.sent.open_complete))) rs h)
-  sent_facts CloseRequest e o n rs h = requested_facts e (let a = and_parts (is_some e.shake.reason) _ o in ap (λ (x : Bool). x || e.shake.sent.open_request) a.0)
-  sent_facts CloseReply e o n rs h =
+  sent_facts : (k : Kind) (e : End) → owed k e ≡ true → (k ≡ MsgRequest → ⊥) → (k ≡ OpenComplete → ⊥) → (rs : List Recorded) → Local (is_begun e) (facts e) rs → facts (end_sent k e) ≡ as_requested (facts e)
+  sent_facts MsgRequest e o n m rs h = absurd (n refl)
+  sent_facts OpenRequest e o n m rs h = ap (λ (b : Bool). record (facts e) { requested = b }) (or_true (is_some e.shake.reason))
+  sent_facts OpenReply e o n m rs h = requested_facts e (ap (λ (x : Bool). is_some e.shake.reason || x) (owed_agreed e o).0 ∙ or_true (is_some e.shake.reason))
+  sent_facts OpenComplete e o n m rs h = absurd (m refl)
+  sent_facts CloseRequest e o n m rs h = requested_facts e (let a = and_parts (is_some e.shake.reason) _ o in ap (λ (x : Bool). x || e.shake.sent.open_request) a.0)
+  sent_facts CloseReply e o n m rs h =
       let a = and_parts e.shake.sent.close_request _ o in
       requested_facts e (live_sent e (rw a.0 (ap (λ (b : Bool). (e.shake.sent.open_complete || (e.shake.sent.open_request || b)) || is_some e.shake.reason) (or_true e.shake.sent.open_reply) ∙ ap (λ (b : Bool). (e.shake.sent.open_complete || b) || is_some e.shake.reason) (or_true e.shake.sent.open_request) ∙ ap (λ (b : Bool). b || is_some e.shake.reason) (or_true e.shake.sent.open_complete))) rs h)
 
@@ -397,8 +390,32 @@ module _ (q c : ℕ) where
   sent_meet CloseReply e = refl
   sent_meet MsgRequest e = refl
 
+  -- with the open complete the sending side is made anew, which is as it was
+  sent_opened : (e : End) → owed OpenComplete e ≡ true → (rs : List Recorded) → Local (is_begun e) (facts e) rs → (zs : List Recorded) → Local true (as_requested (facts e)) zs → Local true (facts (end_sent OpenComplete e)) zs
+  sent_opened e o rs h zs l =
+      let a = and_parts (not (is_some e.shake.reason)) _ o in
+      let b = and_parts e.shake.sent.open_reply _ a.1 in
+      let d = and_parts e.shake.got.open_reply _ b.1 in
+      let begun : is_begun e ≡ true = rw b.0 (ap (λ (x : Bool). (e.shake.sent.open_complete || x) || is_some e.shake.reason) (or_true e.shake.sent.open_request) ∙ ap (λ (x : Bool). x || is_some e.shake.reason) (or_true e.shake.sent.open_complete)) in
+      let requested : (facts e).requested ≡ true = live_sent e begun rs h in
+      subst (λ (b : Bool). Local true (record (facts e) { put = 0; known = 0; requested = b; opened = true }) zs) (sym requested) (opened_local (as_requested (facts e)) zs (unsent e.shake.sent.open_complete d.1) l)
+    where
+      unsent : (b : Bool) → not b ≡ true → b ≡ false
+      unsent true t = absurd (cc)
+      unsent false t = refl
+
+  sent_local : (k : Kind) → (k ≡ MsgRequest → ⊥) → (e : End) → owed k e ≡ true → (rs : List Recorded) → Local (is_begun e) (facts e) rs → (zs : List Recorded) → Local true (as_requested (facts e)) zs → Local true (facts (end_sent k e)) zs
+  sent_local OpenComplete n e o rs h zs l = sent_opened e o rs h zs l
+  sent_local MsgRequest n e o rs h zs l = absurd (n refl)
+  sent_local OpenRequest n e o rs h zs l = same_local true true (as_requested (facts e)) _ zs refl (sent_facts OpenRequest e o n (λ z. absurd (cc)) rs h) l
+  sent_local OpenReply n e o rs h zs l = same_local true true (as_requested (facts e)) _ zs refl (sent_facts OpenReply e o n (λ z. absurd (cc)) rs h) l
+  sent_local CloseRequest n e o rs h zs l = same_local true true (as_requested (facts e)) _ zs refl (sent_facts CloseRequest e o n (λ z. absurd (cc)) rs h) l
+  sent_local CloseReply n e o rs h zs l = same_local true true (as_requested (facts e)) _ zs refl (sent_facts CloseReply e o n (λ z. absurd (cc)) rs h) l
+
   with_sents : (k : Kind) → (k ≡ MsgRequest → ⊥) → (e : End) → owed k e ≡ true → Keeps e (with_sent k e)
-  with_sents k n e o on = (ap (λ (o : Option Contact). is_some o) (sent_meet k e) ∙ on, λ rs h. same_local true (is_begun (end_sent k e)) (as_requested (facts e)) (facts (end_sent k e)) (with_notes q c (opened_notes e) rs) (sent_begun k n e) (sent_facts k e o n rs h) (begins e (λ t. on) rs h))
+  with_sents k n e o on =
+      let zs : List Recorded → List Recorded = λ rs. with_notes q c (opened_notes e) rs in
+      (ap (λ (o : Option Contact). is_some o) (sent_meet k e) ∙ on, λ rs h. subst (λ (b : Bool). Local b (facts (end_sent k e)) (zs rs)) (sym (sent_begun k n e)) (sent_local k n e o rs h (zs rs) (begins e (λ t. on) rs h)))
 
   sends_control : (k : Kind) → (k ≡ MsgRequest → ⊥) → (e : End) → owed k e ≡ true → Keeps e (control_sent k e)
   sends_control k n e o =
@@ -420,30 +437,33 @@ module _ (q c : ℕ) where
     | inr f ↦ grind (arith, nat_tests)
   ]
 
-  hears_get : (e : End) (w : ℕ) → e.sides.send.remote_get ≤ w → (r : Recorded) → Live (facts e) r → Live (record (facts e) { known = w }) r
-  hears_get e w l r h = record { freed = h.freed; acked = h.acked; told = told_known r.asked r.delivered e.sides.pending_notices e.sides.send.remote_get w e.sides.send.put l h.told; ended = h.ended; over = h.over; requested = h.requested }
+  hears_get : (e : End) (w : ℕ) → e.shake.sent.open_complete ≡ true → e.sides.send.remote_get ≤ w → (r : Recorded) → Live (facts e) r → Live (record (facts e) { known = w }) r
+  hears_get e w o l r h = record { freed = h.freed; acked = h.acked; told = told_known r.asked r.delivered e.sides.pending_notices e.sides.send.remote_get w e.sides.send.put l h.told; ended = h.ended; over = h.over; requested = h.requested; unopened = λ t. absurd (cc) }
 
-  reads_get : (e : End) (w : ℕ) → is_begun e ≡ true → Holds e (by_send e (ring_effect e.sides.send ReadGet w))
-  reads_get e w b = by (is_bad_get e.sides.send w) refl where
+  opened_begun : (e : End) → e.shake.sent.open_complete ≡ true → is_begun e ≡ true
+  opened_begun e o = rw o refl
+
+  reads_get : (e : End) (w : ℕ) → e.shake.sent.open_complete ≡ true → Holds e (by_send e (ring_effect e.sides.send ReadGet w))
+  reads_get e w o = by (is_bad_get e.sides.send w) refl where
     full : (z : Bool) → e.sides.send.remote_get ≤ w → Holds e (by_send e (cond z (record { local = send_over (with_remote_get w e.sides.send); reason = None; notes = Sent (NoSlot e.sides.send.put w) ∷ [] }) (record { local = with_remote_get w e.sides.send; reason = None; notes = [] })))
-    full true l = lives e (by_send e (record { local = send_over (with_remote_get w e.sides.send); reason = None; notes = Sent (NoSlot e.sides.send.put w) ∷ [] })) (λ r. r) b b (λ r more. refl) (λ r h. hears_get e w l r h)
-    full false l = lives e (by_send e (record { local = with_remote_get w e.sides.send; reason = None; notes = [] })) (λ r. r) b b (λ r more. refl) (λ r h. hears_get e w l r h)
+    full true l = lives e (by_send e (record { local = send_over (with_remote_get w e.sides.send); reason = None; notes = Sent (NoSlot e.sides.send.put w) ∷ [] })) (λ r. r) (opened_begun e o) (opened_begun e o) (λ r more. refl) (λ r h. hears_get e w o l r h)
+    full false l = lives e (by_send e (record { local = with_remote_get w e.sides.send; reason = None; notes = [] })) (λ r. r) (opened_begun e o) (opened_begun e o) (λ r more. refl) (λ r h. hears_get e w o l r h)
 
     by : (z : Bool) → is_bad_get e.sides.send w ≡ z → Holds e (by_send e (cond z (record { local = e.sides.send; reason = Some (BadCounters w e.sides.send.put); notes = [] }) (get_loaded e.sides.send w)))
     by true t = calm e (by_send e (record { local = e.sides.send; reason = Some (BadCounters w e.sides.send.put); notes = [] })) refl refl tt
     by false t = full (is_full e.sides.send w) (low_get e.sides.send w t)
 
-  accepts : (e : End) → is_begun e ≡ true → Holds e (by_send e (ring_effect e.sides.send AcceptMessage 0))
-  accepts e b = by (wants_notice e.sides.send.send) where
+  accepts : (e : End) → e.shake.sent.open_complete ≡ true → Holds e (by_send e (ring_effect e.sides.send AcceptMessage 0))
+  accepts e o = by (wants_notice e.sides.send.send) where
     to : Bool → Effect End (List Note)
     to asks = by_send e (record { local = record (send_over e.sides.send) { put = e.sides.send.put + 1 }; reason = None; notes = Accepted e.sides.send.put (payload_of e.sides.send.send) asks ∷ Sent (SendOk e.sides.send.put) ∷ [] })
 
     by : (asks : Bool) → Holds e (to asks)
-    by true = lives e (to true) (accepted_in e.sides.send.put (payload_of e.sides.send.send) true) b b (λ r more. refl) (λ r h. record { freed = h.freed; acked = h.acked; told = told_asked r.asked r.delivered e.sides.pending_notices e.sides.send.remote_get e.sides.send.put h.told; ended = h.ended; over = h.over; requested = h.requested })
-    by false = lives e (to false) (accepted_in e.sides.send.put (payload_of e.sides.send.send) false) b b (λ r more. refl) (λ r h. record { freed = h.freed; acked = h.acked; told = told_unasked r.asked r.delivered e.sides.pending_notices e.sides.send.remote_get e.sides.send.put h.told; ended = h.ended; over = h.over; requested = h.requested })
+    by true = lives e (to true) (accepted_in e.sides.send.put (payload_of e.sides.send.send) true) (opened_begun e o) (opened_begun e o) (λ r more. refl) (λ r h. record { freed = h.freed; acked = h.acked; told = told_asked r.asked r.delivered e.sides.pending_notices e.sides.send.remote_get e.sides.send.put h.told; ended = h.ended; over = h.over; requested = h.requested; unopened = λ t. absurd (cc) })
+    by false = lives e (to false) (accepted_in e.sides.send.put (payload_of e.sides.send.send) false) (opened_begun e o) (opened_begun e o) (λ r more. refl) (λ r h. record { freed = h.freed; acked = h.acked; told = told_unasked r.asked r.delivered e.sides.pending_notices e.sides.send.remote_get e.sides.send.put h.told; ended = h.ended; over = h.over; requested = h.requested; unopened = λ t. absurd (cc) })
 
-  reads_counters : (e : End) (o : Option ℕ) (w : ℕ) → is_begun e ≡ true → Holds e (by_pull e (counters_pulled (sender_counters e.sides) o e.sides.pull w))
-  reads_counters e None w b = by (is_bad_get e.sides.send w) refl where
+  reads_counters : (e : End) (x : Option ℕ) (w : ℕ) → e.shake.sent.open_complete ≡ true → Holds e (by_pull e (counters_pulled (sender_counters e.sides) x e.sides.pull w))
+  reads_counters e None w o = by (is_bad_get e.sides.send w) refl where
     bad : Effect Pulling (List PullNote)
     bad = record { local = record e.sides.pull { owed = false }; reason = Some (BadCounters w e.sides.send.put); notes = [] }
 
@@ -452,8 +472,8 @@ module _ (q c : ℕ) where
 
     by : (z : Bool) → is_bad_get e.sides.send w ≡ z → Holds e (by_pull e (cond z bad good))
     by true t = calm e (by_pull e bad) refl refl tt
-    by false t = lives e (by_pull e good) (λ r. r) b b (λ r more. refl) (λ r h. hears_get e w (low_get e.sides.send w t) r h)
-  reads_counters e (Some get) w b = by (is_bad_put (sender_counters e.sides) e.sides.pull w) where
+    by false t = lives e (by_pull e good) (λ r. r) (opened_begun e o) (opened_begun e o) (λ r more. refl) (λ r h. hears_get e w o (low_get e.sides.send w t) r h)
+  reads_counters e (Some get) w o = by (is_bad_put (sender_counters e.sides) e.sides.pull w) where
     bad : Effect Pulling (List PullNote)
     bad = record { local = record e.sides.pull { counters = None }; reason = Some (BadCounters get w); notes = [] }
 
@@ -480,7 +500,7 @@ module _ (q c : ℕ) where
     to z = record { local = hears (release_notes z e.sides.ack.front) (record e { sides = record e.sides { local_get = e.sides.ack.front; releasing = false }; shake = record e.shake { owes_message = true } }); reason = None; notes = Acked e.sides.ack.front ∷ release_notes z e.sides.ack.front }
 
     new : (r : Recorded) → Live (facts e) r → Live (record (facts e) { get = e.sides.ack.front }) (has_acked e.sides.ack.front r)
-    new r h = record { freed = h.freed; acked = refl; told = h.told; ended = h.ended; over = h.over; requested = h.requested }
+    new r h = record { freed = h.freed; acked = refl; told = h.told; ended = h.ended; over = h.over; requested = h.requested; unopened = h.unopened }
 
     by : (z : Bool) → Holds e (to z)
     by true = lives e (to true) (has_acked e.sides.ack.front) b b (λ r more. refl) new
@@ -502,14 +522,17 @@ module _ (q c : ℕ) where
   begun_connected : (e : End) → link_of e ≡ Connected → is_begun e ≡ true
   begun_connected e h = (open_connected no_area no_area e h).begun
 
-  begun_copy : (e : End) → may_copy e ≡ true → is_begun e ≡ true
-  begun_copy e h = (open_copy no_area no_area e h).begun
+  opened_connected : (e : End) → link_of e ≡ Connected → e.shake.sent.open_complete ≡ true
+  opened_connected e h = (open_connected no_area no_area e h).opened
+
+  opened_copy : (e : End) → may_copy e ≡ true → e.shake.sent.open_complete ≡ true
+  opened_copy e h = (open_copy no_area no_area e h).opened
 
   pub link_holds : (place : ℕ) (e : End) (m : LinkRule) (w : ℕ) → link_can e m → Holds e (link_effect place e m w)
-  link_holds place e (Ring ReadGet) w can = reads_get e w (begun_connected e can.0)
+  link_holds place e (Ring ReadGet) w can = reads_get e w (opened_connected e can.0)
   link_holds place e (Ring (WriteEntryWord f)) w can = calm e (by_send e (ring_effect e.sides.send (WriteEntryWord f) w)) refl refl tt
-  link_holds place e (Ring AcceptMessage) w can = accepts e (begun_connected e can.0)
-  link_holds place e (Pull ReadCounters) w can = reads_counters e e.sides.pull.counters w (begun_copy e can.0)
+  link_holds place e (Ring AcceptMessage) w can = accepts e (opened_connected e can.0)
+  link_holds place e (Pull ReadCounters) w can = reads_counters e e.sides.pull.counters w (opened_copy e can.0)
   link_holds place e (Pull ReadEntry) w can = reads_entry e (e.sides.pull.copied ++ w ∷ [])
   link_holds place e Acknowledge w can = acknowledges e (begun_connected e can.0)
   link_holds place e (SetFlag k) w can = (sends k e can.1 can.0).1
@@ -528,7 +551,7 @@ module _ (q c : ℕ) where
 
   -- the partner goes down, or has left; a contact is made; a boot begins
   pub goes_down : (reason : Reason) (e : End) → Holds e (link_down reason e)
-  goes_down reason e = then_holds e (link_closed reason e) (λ x. just (record x { shake = record x.shake { owes_message = false; meet = None } })) (by (is_begun e) refl) (calm (link_closed reason e).local (just (record (link_closed reason e).local { shake = record (link_closed reason e).local.shake { owes_message = false; meet = None } })) refl refl tt) where
+  goes_down reason e = then_holds e (link_closed reason e) (λ x. just (parted x)) (by (is_begun e) refl) (calm (link_closed reason e).local (just (parted (link_closed reason e).local)) refl refl tt) where
     by : (z : Bool) → is_begun e ≡ z → Holds e (cond z (close_now e.shake.reason reason e) (just e))
     by true t = closes_now e.shake.reason reason e t
     by false t = calm e (just e) refl refl tt
@@ -536,8 +559,8 @@ module _ (q c : ℕ) where
   pub finishes : (e : End) → Holds e (link_finished e)
   finishes e = fresh_idle e (link_finished e) refl (idle_new _ refl refl refl refl refl) refl
 
-  pub joins : (m : Contact) (e : End) → Holds e (link_joined m e)
-  joins m e rs h = idle_local _ rs (idle_new _ refl refl refl refl refl) (all_done (is_begun e) (facts e) rs h)
+  pub joins : (new : Bool) (m : Contact) (e : End) → Holds e (link_joined new m e)
+  joins new m e rs h = idle_local _ rs (idle_new _ refl refl refl refl refl) (all_done (is_begun e) (facts e) rs h)
 
   pub boots : (e : End) → Holds e (just (booted_end e))
   boots e rs h = idle_local _ rs (idle_new _ refl refl refl refl refl) (all_done (is_begun e) (facts e) rs h)
@@ -567,7 +590,7 @@ module _ (q c : ℕ) where
     to stays = say (release_held stays number new) (record e { sides = record e.sides { ack = new; releasing = not stays } })
 
     live : is_held number e.sides.ack ≡ true → (r : Recorded) → Live (facts e) r → Live (record (facts e) { ack = new }) (has_released number r)
-    live held r h = record { freed = freed_released r.released number e.sides.ack held h.freed; acked = h.acked; told = h.told; ended = h.ended; over = h.over; requested = h.requested }
+    live held r h = record { freed = freed_released r.released number e.sides.ack held h.freed; acked = h.acked; told = h.told; ended = h.ended; over = h.over; requested = h.requested; unopened = h.unopened }
 
     held_by : is_begun e ≡ true → is_held number e.sides.ack ≡ true → (stays : Bool) → Holds e (to stays)
     held_by b held true = lives e (to true) (has_released number) b b (λ r more. refl) (live held)
@@ -617,7 +640,7 @@ module _ (q c : ℕ) where
   takes_answered : (e : End) → Holds e (taken_by (take_found e) e)
   takes_answered e = by (is_connected e) refl (take_due e.sides.pull) where
     taken : is_begun e ≡ true → (o : Option TakeAnswer) → Holds e (taken_by o e)
-    taken b (Some (TakenAnswer number body)) = lives e (taken_by (Some (TakenAnswer number body)) e) (has_taken body) b b (λ r more. refl) (λ r h. record { freed = freed_held r.released e.sides.ack h.freed; acked = h.acked; told = h.told; ended = h.ended; over = h.over; requested = h.requested })
+    taken b (Some (TakenAnswer number body)) = lives e (taken_by (Some (TakenAnswer number body)) e) (has_taken body) b b (λ r more. refl) (λ r h. record { freed = freed_held r.released e.sides.ack h.freed; acked = h.acked; told = h.told; ended = h.ended; over = h.over; requested = h.requested; unopened = h.unopened })
     taken b (Some (Empty put)) = calm e (taken_by (Some (Empty put)) e) refl refl tt
     taken b (Some a) = calm e (just e) refl refl tt
     taken b None = calm e (just e) refl refl tt
@@ -670,6 +693,7 @@ module _ (q c : ℕ) where
       ended = h.ended;
       over = h.over;
       requested = h.requested;
+      unopened = h.unopened;
     }
 
     by : (b : Bool) → is_begun e ≡ b → (rs : List Recorded) → Local (is_begun e) (facts e) rs → (let f = end_noticed Delivered number e in Local (is_begun f.local) (facts f.local) (with_notes q c f.notes rs))

@@ -18,7 +18,7 @@ use Rattle.xp_script.specs.declared.part.ScenarioPart.{ScenarioPart}
 use Rattle.xp_protocol.specs.Parts.{script_in, IsLawfulPart}
 use Rattle.xp_protocol.specs.Records.{Recorded, opened_record}
 use Rattle.xp_protocol.specs.Effects.{Effect, just, Note, with_notes}
-use Rattle.xp_protocol.specs.State.{State, End, Peer, Reading, Old, warm_end, cold_peer, idle_end, opened_state, is_begun, end_of, peer_of, peer_at, link_at}
+use Rattle.xp_protocol.specs.State.{State, End, Peer, Reading, Old, warm_end, first_met, opened_new, cold_peer, idle_end, opened_state, is_begun, end_of, peer_of, peer_at, link_at}
 use Rattle.xp_protocol.specs.Linking.{link_down, link_finished, link_joined, flags_got, booted_end}
 use Rattle.xp_protocol.specs.Peering.{Here, same_peer, is_bad_flags, area_left_for, contact_made, contact_of, try_contact, record_read, peer_effect, area_off, peer_read, deactivation_heard, is_left, is_flagged, is_magic, is_wrong, has_shown, with_reason, peer_failed, booted_peer}
 use Rattle.xp_protocol.specs.Rules.{Can, here_of, peer_numbered, mark_of, place_for, after_answer, noted_rule}
@@ -62,7 +62,7 @@ module _ (rs : List Recorded) (q c : ℕ) (lc : c < 4) where
     meets z e =
         let now : Q (link_at z.links c) [] = subst (λ (ls : List End). Q (link_at ls c) []) (sym e) old in
         cond_in (z.engage.second && (z.engage.shown && not (is_some z.contact))) (contact_made y.stamp z) (same_peer z)
-        (links_framed Q (λ c e. link_joined (contact_of y.stamp z.engage) e) (record z { contact = Some (contact_of y.stamp z.engage); engage = record z.engage { state = Active } }) c (ap length e ∙ n) lc (joins q c (contact_of y.stamp z.engage) (link_at z.links c) rs now)) now
+        (links_framed Q (λ c e. link_joined z.both_new (contact_of y.stamp z.engage) e) (record z { contact = Some (contact_of y.stamp z.engage); engage = record z.engage { state = Active } }) c (ap length e ∙ n) lc (joins q c z.both_new (contact_of y.stamp z.engage) (link_at z.links c) rs now)) now
 
     read_in : (o : Option Reading) (w : ℕ) → In (record_read y p o w)
     read_in None w = cond_in (eqb w 0) _ _ old (cond_in (is_magic w) _ _ old old)
@@ -205,22 +205,26 @@ module _ (q c : ℕ) where
     by true h = (x, refl)
     by false h = h
 
-  first_live : (part : ℕ) (l m : SetupLink) → Live (facts (warm_end part l)) (opened_record m)
-  first_live part l m = new_live (facts (warm_end part l)) (opened_record m) (record { ack = refl; pending = refl; get = refl; put = refl; known = refl }) refl refl refl refl refl refl refl
+  first_live : (new : Bool) (l m : SetupLink) → Live (facts (warm_end new l)) (opened_record m)
+  first_live new l m = new_live (facts (warm_end new l)) (opened_record m) (record { ack = refl; pending = refl; get = refl; put = refl; known = refl }) refl refl refl refl refl refl refl
 
-  all_opened : (part : ℕ) (ls : List SetupLink) → AreDone (opened_records ls q c)
-  all_opened part [] = tt
-  all_opened part (x ∷ ls) = by (is_at x q c) (all_opened part ls) where
+  all_opened : (ls : List SetupLink) → AreDone (opened_records ls q c)
+  all_opened [] = tt
+  all_opened (x ∷ ls) = by (is_at x q c) (all_opened ls) where
     by : (b : Bool) → AreDone (opened_records ls q c) → AreDone (cond b (opened_record x ∷ []) (opened_records ls q c))
-    by true h = (live_done (facts (warm_end part x)) (opened_record x) (first_live part x x), tt)
+    by true h = (live_done (facts (warm_end false x)) (opened_record x) (first_live false x x), tt)
     by false h = h
 
   first_local : (s : ScenarioPart) → LocalAt (end_of (opened_state s) q c) (opened_records s.links q c)
   first_local s = elim (opened_or s q c) [
-    | inl e ↦ subst (λ (x : End). LocalAt x (opened_records s.links q c)) (sym e) (idle_local (facts idle_end) (opened_records s.links q c) (record { ack = refl; pending = refl; get = refl; put = refl; known = refl }) (all_opened s.part s.links))
-    | inr o ↦
+    | inl e ↦ subst (λ (x : End). LocalAt x (opened_records s.links q c)) (sym e) (idle_local (facts idle_end) (opened_records s.links q c) (record { ack = refl; pending = refl; get = refl; put = refl; known = refl }) (all_opened s.links))
+    | inr (inl o) ↦
+        let new = opened_new s q in
+        subst (λ (x : End). LocalAt x (opened_records s.links q c)) (sym o.is) (idle_local (facts (first_met new idle_end)) (opened_records s.links q c) (record { ack = refl; pending = refl; get = refl; put = refl; known = refl }) (all_opened s.links))
+    | inr (inr o) ↦
+        let new = opened_new s q in
         let k = listed s.links o.at.number o.link o.at.listed o.at.partner o.at.channel in
-        subst (λ (x : End). LocalAt x (opened_records s.links q c)) (sym o.is) (subst (λ (rs : List Recorded). LocalAt (warm_end s.part o.link) rs) (sym k.1) (live_local (facts (warm_end s.part o.link)) (opened_record k.0) [] (first_live s.part o.link k.0) tt))
+        subst (λ (x : End). LocalAt x (opened_records s.links q c)) (sym o.is) (subst (λ (rs : List Recorded). LocalAt (warm_end new o.link) rs) (sym k.1) (live_local (facts (warm_end new o.link)) (opened_record k.0) [] (first_live new o.link k.0) tt))
   ]
 
 pub owned_first : (s : ScenarioPart) → Owned s.count (part_opened s)

@@ -14,7 +14,7 @@ use Rattle.xp_protocol.specs.Records.{Recorded}
 use Rattle.xp_protocol.specs.Effects.{Effect, Note, with_notes}
 use Rattle.xp_protocol.specs.State.{End, Life, Booting, Up, Halted, Off, Ready, Reading, Contact, Peer, link_at}
 use Rattle.xp_protocol.specs.Linking.{link_down, link_joined, link_finished, booted_end}
-use Rattle.xp_protocol.specs.Peering.{or_zero, first_magic, second_magic, is_magic, is_left, is_flagged, area_left_for, area_off, same_peer, with_reason, contact_of, contact_made, try_contact, session_now, magic_read, session_read, echo_read, place_read, last_read, has_shown, is_wrong, record_read, read_place, say_reason, peer_failed, freed_engage, left_engage, page_read, judged, look_reason, Here, peer_can, peer_effect, peer_read, deactivation_heard, booted_peer}
+use Rattle.xp_protocol.specs.Peering.{or_zero, first_magic, second_magic, is_magic, is_left, is_flagged, area_left_for, area_off, same_peer, with_reason, contact_of, contact_made, try_contact, session_now, magic_read, session_read, echo_read, place_read, last_read, has_shown, is_wrong, record_read, read_place, say_reason, peer_failed, freed_engage, left_engage, page_read, judged, look_reason, Here, peer_can, peer_effect, peer_read, deactivation_heard, booted_peer, both_new_by}
 use Rattle.xp_protocol.specs.Rules.{peer_life}
 use Rattle.xp_protocol.specs.Runs.{is_halted}
 use Rattle.xp_protocol.proofs.Slots.{at_each}
@@ -97,7 +97,7 @@ module _ (q c : ℕ) (lc : c < 4) (lb : Life) (r : Peer) (y : Area) (rs ss : Lis
         let j = right lb r z in
         let both = both_contact i j h.both o ready inside a.0 d.0 in
         let Q : End → List Note → Type 0 = λ e ns. Fine (left Up (contact_made z.stamp p).local z) j x y (with_notes q c ns rs) ss e g in
-        links_framed Q (λ k e. link_joined (contact_of z.stamp p.engage) e) (record p { contact = Some (contact_of z.stamp p.engage) }) c n lc (meets_line i j x y rs ss (link_at p.links c) g h (record { ready = ready; alone = o }) both)
+        links_framed Q (λ k e. link_joined p.both_new (contact_of z.stamp p.engage) e) (record p { contact = Some (contact_of z.stamp p.engage) }) c n lc (meets_line p.both_new i j x y rs ss (link_at p.links c) g h (record { ready = ready; alone = o }) both)
 
   left_line : (la : Life) (o : Option Reason) (p : Peer) (z : Six) (x : Area) → length p.links ≡ 4 → IsSome o → p.engage.area ≡ Ready → LineOf la p z x [] → (let f = area_left_for o p in LineOf la f.local (record z { magic = 0 }) x (f.notes c))
   left_line la None p z x n i a h = absurd (cc)
@@ -231,8 +231,8 @@ module _ (q c : ℕ) (lc : c < 4) (lb : Life) (r : Peer) (y : Area) (rs ss : Lis
       seen_left : (a b : Bool) → (a || false) ≡ true → (a || b) ≡ true
       seen_left true b d = refl
       seen_left false b d = absurd (cc)
-  peer_line hh la p z LookAtPage v x x' n u t can l e h = subst (λ (k : Area). let f = page_read (p.paging ++ v ∷ []) v p in LineOf la f.local z k (f.notes c)) (sym e) (page_line (eqb (length (p.paging ++ v ∷ [])) 5)) where
-    page_line : (b : Bool) → (let f : Effect Peer (ℕ → List Note) = cond b (record { local = record p { look = judged (p.paging ++ v ∷ []); paging = [] }; reason = look_reason p.engage.echo (judged (p.paging ++ v ∷ [])) v; notes = λ c. [] }) (record { local = record p { paging = p.paging ++ v ∷ [] }; reason = None; notes = λ c. [] }) in LineOf la f.local z x (f.notes c))
+  peer_line hh la p z LookAtPage v x x' n u t can l e h = subst (λ (k : Area). let f = page_read hh.version (p.paging ++ v ∷ []) v p in LineOf la f.local z k (f.notes c)) (sym e) (page_line (eqb (length (p.paging ++ v ∷ [])) 5)) where
+    page_line : (b : Bool) → (let f : Effect Peer (ℕ → List Note) = cond b (record { local = record p { look = judged (p.paging ++ v ∷ []); paging = []; both_new = both_new_by hh.version (judged (p.paging ++ v ∷ [])) p.both_new }; reason = look_reason p.engage.echo (judged (p.paging ++ v ∷ [])) v; notes = λ c. [] }) (record { local = record p { paging = p.paging ++ v ∷ [] }; reason = None; notes = λ c. [] }) in LineOf la f.local z x (f.notes c))
     page_line true = h
     page_line false = h
   peer_line hh la p z ClearDeactivationBit v x x' n u t can l e h = subst (λ (k : Area). LineOf la p z k []) (sym e) h

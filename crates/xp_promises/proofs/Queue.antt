@@ -186,7 +186,7 @@ arguments x y e g reply place right k = record {
   request_loaded = k.heard.request;
   reply_loaded = k.heard.reply;
   code_loaded = k.heard.code;
-  size = λ d t. (let z = k.heard.sizes d t in (ap (λ (n : Size). n.entries) z, ap (λ (n : Size). n.limit) z));
+  size = k.heard.sizes;
 }
 
 -- a partner that waits for the contact has got and taken nothing

@@ -105,22 +105,22 @@ begun_by u v x y rs ss p r b on has h = record {
   mine = record { first = λ d. has; below = h.mine.below; fresh = λ d. absurd (cc); ready = h.mine.ready; out = h.mine.out; inn = h.mine.inn; put_word = h.mine.put_word; get_word = h.mine.get_word };
 }
 
--- the open request is sent, after both zeros: the own side has the size of the epoch
-pub requests : (u v : Session) (x y : Data) (rs ss : List Recorded) (p r : Parts) (s' : Sending) → p.opened ≡ false → IdleOut s' → p.get_zero ≡ true → p.put_zero ≡ true → Rest u v x y rs ss p r → Rest u v x y rs ss (record p { requested = true; send = s' }) r
-requests u v x y rs ss p r s' off idle get_zero put_zero h = record {
-  theirs = h.theirs;
-  sends = free_out u v x.put x.entry y.get rs ss p.epoch r.epoch p.opened r.opened p.send r.inn x.put x.entry s' off h.sends;
-  gets = h.gets;
-  mine = record { first = h.mine.first; below = h.mine.below; fresh = h.mine.fresh; ready = λ d. (get_zero, put_zero); out = λ d. idle; inn = h.mine.inn; put_word = h.mine.put_word; get_word = h.mine.get_word };
-}
-
--- the partner's open request is handled: the receiving side has its size
-pub sized_in : (u v : Session) (x y : Data) (rs ss : List Recorded) (p r : Parts) (i' : InSide) → p.opened ≡ false → IdleIn i' → Rest u v x y rs ss p r → Rest u v x y rs ss (record p { inn = i' }) r
-sized_in u v x y rs ss p r i' off idle h = record {
+-- the open request is sent, after both zeros
+pub requests : (u v : Session) (x y : Data) (rs ss : List Recorded) (p r : Parts) → p.get_zero ≡ true → p.put_zero ≡ true → Rest u v x y rs ss p r → Rest u v x y rs ss (record p { requested = true }) r
+requests u v x y rs ss p r get_zero put_zero h = record {
   theirs = h.theirs;
   sends = h.sends;
+  gets = h.gets;
+  mine = record { first = h.mine.first; below = h.mine.below; fresh = h.mine.fresh; ready = λ d. (get_zero, put_zero); out = h.mine.out; inn = h.mine.inn; put_word = h.mine.put_word; get_word = h.mine.get_word };
+}
+
+-- both sides are made anew in an epoch that isn't opened
+pub sides_anew : (u v : Session) (x y : Data) (rs ss : List Recorded) (p r : Parts) (s' : Sending) (i' : InSide) → p.opened ≡ false → IdleOut s' → IdleIn i' → Rest u v x y rs ss p r → Rest u v x y rs ss (record p { send = s'; inn = i' }) r
+sides_anew u v x y rs ss p r s' i' off idle idle' h = record {
+  theirs = h.theirs;
+  sends = free_out u v x.put x.entry y.get rs ss p.epoch r.epoch p.opened r.opened p.send r.inn x.put x.entry s' off h.sends;
   gets = free_in v u y.put y.entry x.get ss rs r.epoch p.epoch r.opened p.opened r.send p.inn x.get i' off h.gets;
-  mine = record { first = h.mine.first; below = h.mine.below; fresh = h.mine.fresh; ready = h.mine.ready; out = h.mine.out; inn = λ d. idle; put_word = h.mine.put_word; get_word = h.mine.get_word };
+  mine = record { first = h.mine.first; below = h.mine.below; fresh = h.mine.fresh; ready = h.mine.ready; out = λ d. idle; inn = λ d. idle'; put_word = h.mine.put_word; get_word = h.mine.get_word };
 }
 
 -- the newest record changes in its place

@@ -14,24 +14,23 @@ use Rattle.xp_protocol.specs.Sending.{closed_send, new_sending}
 use Rattle.xp_protocol.specs.Pulling.{closed_take, new_pulling}
 use Rattle.xp_protocol.specs.Releasing.{new_releasing}
 use Rattle.xp_protocol.specs.State.{End, Contact, is_connected, is_begun, any_kind}
-use Rattle.xp_protocol.specs.Linking.{hears, down_notes, down_end, close_now, link_closed, link_down, closed_release, closed_drain, over_note, over_notes, link_finished, open_notes, opened_notes, epoch_over, is_ended, booted_end, kind_got, handled, well_handled, kind_refused, refused, handled_next, settle, joined_notes, connection_noted, settled as all_settled, with_taken, flags_got, with_sent, control_sent, flag_sent, owed, IsReady, channel_closed, changed, unequal, are_unequal, request_handled, reply_handled, code_handled, is_request, has_argument, kept_for, argument_stored, with_argument, argument_read, request_of, code_of, kind_of, entries_in, limit_in}
+use Rattle.xp_protocol.specs.Linking.{hears, down_notes, down_end, close_now, link_closed, link_down, closed_release, closed_drain, over_note, over_notes, link_finished, open_notes, opened_notes, epoch_over, is_ended, booted_end, kind_got, handled, well_handled, kind_refused, refused, handled_next, settle, joined_notes, connection_noted, settled as all_settled, with_taken, flags_got, with_sent, control_sent, flag_sent, owed, IsReady, channel_closed, changed, unequal, are_unequal, request_handled, reply_handled, code_handled, is_request, has_argument, kept_for, argument_stored, with_argument, argument_read, request_of, code_of, kind_of, limit_in, agreed, agreed_by, end_sent, parted}
 use Rattle.xp_base.specs.declared.session.Session.{Session}
-use Rattle.xp_protocol.specs.Promised.{IsUnrefused, Name, name_of}
+use Rattle.xp_protocol.specs.Promised.{IsUnrefused, size_sent, Name, name_of}
 use Rattle.xp_meetings.proofs.Parts.{notes_more}
 use Rattle.xp_promises.proofs.FlagEnds.{End as Control, Oreq, Orep, Ocomp, Creq, Crep, Owed, Next, settled, Take, Send, Handle, no_kinds as no_five}
 use Rattle.xp_meetings.proofs.Both.{Side}
 use Rattle.xp_meetings.proofs.Touch.{IsWaiting}
 use Rattle.xp_promises.proofs.FlagKept.{Sound, flags_kept, again, settled_yes, settled_no as settled_kept, fine_oreq, fine_orep, fine_ocomp, fine_creq, fine_crep}
 use Rattle.xp_promises.proofs.FlagUse.{unopened_sent, unreplied_sent, unreplied_got, not_refused, reply_after, sent_oreq, sent_orep, sent_creq, got_oreq, opening_even, unopened_got}
-use Rattle.xp_promises.proofs.Arguments.{Sheet, Argued, kept_some, takes_terms, closes_terms, sends_oreq, sends_orep, sends_ocomp, sends_creq, sends_crep, request_is, code_is, gets_oreq, gets_orep, gets_ocomp, gets_creq, gets_crep, ends_terms, stores_request, stores_reply, stores_code, reads_request, reads_reply, reads_code}
+use Rattle.xp_promises.proofs.Arguments.{Sheet, Argued, kept_some, takes_terms, closes_terms, sends_oreq, sends_orep, sends_ocomp, sends_creq, sends_crep, agreed_sizes, request_is, code_is, gets_oreq, gets_orep, gets_ocomp, gets_creq, gets_crep, ends_terms, stores_request, stores_reply, stores_code, reads_request, reads_reply, reads_code}
 use Rattle.xp_protocol.specs.State.{Size, Replied, size_in}
 use Rattle.xp_protocol.specs.Pulling.{is_copying}
 use Rattle.xp_protocol.specs.declared.rule.Argument.{Argument}
 use Rattle.xp_protocol.specs.declared.rule.Argument.TheVariants.{Request, Reply, Code}
-use Rattle.std.proofs.lemmas.Bool.{eqb-true}
 use Rattle.xp_promises.proofs.Books.{core, at, names, Grown, grown_none, grown_by, grown_one, grown_then, has, first_has, names_more, below_missing, HasFirst, Others, ArePlain, plain_both, plain_notes, name_other}
 use Rattle.xp_promises.proofs.Ways.{InSide}
-use Rattle.xp_promises.proofs.Rests.{Data, Parts, parts, Rest, noted, begun_by, requests, went_over, book_begun, opens, next_parts, leaves_epoch, put_zeroed, get_zeroed, in_side, out_size, sized_in}
+use Rattle.xp_promises.proofs.Rests.{Data, Parts, parts, Rest, noted, begun_by, requests, went_over, book_begun, opens, next_parts, leaves_epoch, put_zeroed, get_zeroed, in_side, sides_anew}
 use Rattle.xp_promises.proofs.Lines.{Area, five, control, View, view, met, Line, Room, Fine, Step, Went, Lives, in_contact, then_lives, gone, first_clean, turned_flags, terms, HasSize}
 use Rattle.xp_promises.proofs.Steps.{AreSilent, silent_both, silent_notes, silent_plain, view_hears, stays, open_connected, connected, owed_set, ringed}
 
@@ -178,8 +177,8 @@ closes x y q c reason clean e = record {
 
 unequals : (x y : Area) (q c : ℕ) (e : End) → Lives x y x y q c e (unequal e)
 unequals x y q c e = by (are_unequal e) where
-  by : (b : Bool) → Lives x y x y q c e (cond b (channel_closed (UnequalSizes e.sides.send.limit e.sides.pull.limit) e) (just e))
-  by true = closes x y q c (UnequalSizes e.sides.send.limit e.sides.pull.limit) tt e
+  by : (b : Bool) → Lives x y x y q c e (cond b (channel_closed (UnequalSizes (limit_in e.shake.own_size) (limit_in e.shake.their_size)) e) (just e))
+  by true = closes x y q c (UnequalSizes (limit_in e.shake.own_size) (limit_in e.shake.their_size)) tt e
   by false = stays x y q c e
 
 -- a flag changes an end, and where that ends its epoch, it ends, or it closes for unequal sizes: what of it keeps the flags, the arguments, and the rest
@@ -243,10 +242,24 @@ owed_oreq e h = by (is_some e.registration) (is_some e.shake.reason) e.shake.sen
   by : (a b d : Bool) → (a && (not b && not d)) ≡ true → (a ≡ true) × (b ≡ false) × (d ≡ false)
   by a b d h = grind arith
 
+-- an agreed limit: both open requests are there
+agreed_both : (s g new : Bool) (own their : ℕ) → is_some (cond (s && g) (agreed_by new own their) None) ≡ true → (s ≡ true) × (g ≡ true) × (is_some (agreed_by new own their) ≡ true)
+agreed_both true true new own their h = (refl, refl, h)
+agreed_both true false new own their h = absurd (cc)
+agreed_both false g new own their h = absurd (cc)
+
+pub owed_agreed : (e : End) → owed OpenReply e ≡ true → (e.shake.sent.open_request ≡ true) × (e.shake.got.open_request ≡ true) × (is_some (agreed_by e.shake.both_new (limit_in e.shake.own_size) (limit_in e.shake.their_size)) ≡ true)
+owed_agreed e h = agreed_both e.shake.sent.open_request e.shake.got.open_request e.shake.both_new _ _ (by (is_some e.shake.reason) (is_some (agreed e.shake)) e.shake.sent.open_reply h) where
+  by : (a t z : Bool) → (not a && (t && not z)) ≡ true → t ≡ true
+  by a t z h = grind arith
+
 owed_orep : (e : End) → owed OpenReply e ≡ true → Owed Orep (control e)
-owed_orep e h = by (is_some e.shake.reason) e.shake.sent.open_request e.shake.got.open_request (nat_eq e.sides.send.limit e.sides.pull.limit) e.shake.sent.open_reply h where
-  by : (a b d t z : Bool) → (not a && (b && (d && (t && not z)))) ≡ true → (a ≡ false) × (b ≡ true) × (d ≡ true) × (z ≡ false)
-  by a b d t z h = grind arith
+owed_orep e h = let k = owed_agreed e h in by (is_some e.shake.reason) (is_some (agreed e.shake)) e.shake.sent.open_reply h k.0 k.1 where
+  by : (a t z : Bool) → (not a && (t && not z)) ≡ true → e.shake.sent.open_request ≡ true → e.shake.got.open_request ≡ true → (a ≡ false) × (e.shake.sent.open_request ≡ true) × (e.shake.got.open_request ≡ true) × (z ≡ false)
+  by false true false h s g = (refl, s, g, refl)
+  by true t z h s g = absurd (cc)
+  by false false z h s g = absurd (cc)
+  by false true true h s g = absurd (cc)
 
 owed_ocomp : (e : End) → owed OpenComplete e ≡ true → Owed Ocomp (control e)
 owed_ocomp e h = by (is_some e.shake.reason) e.shake.sent.open_reply e.shake.got.open_reply e.shake.sent.open_complete h where
@@ -262,11 +275,6 @@ owed_crep : (e : End) → owed CloseReply e ≡ true → Owed Crep (control e)
 owed_crep e h = by e.shake.sent.close_request e.shake.got.close_request e.shake.sent.close_reply (not (is_copying e.sides.pull)) h where
   by : (a b z t : Bool) → (a && (b && (not z && t))) ≡ true → (a ≡ true) × (b ≡ true) × (z ≡ false)
   by a b z t h = grind arith
-
-owed_equal : (e : End) → owed OpenReply e ≡ true → e.sides.send.limit ≡ e.sides.pull.limit
-owed_equal e h = eqb-true e.sides.send.limit e.sides.pull.limit (by (is_some e.shake.reason) e.shake.sent.open_request e.shake.got.open_request (nat_eq e.sides.send.limit e.sides.pull.limit) e.shake.sent.open_reply h) where
-  by : (a b d t z : Bool) → (not a && (b && (d && (t && not z)))) ≡ true → t ≡ true
-  by a b d t z h = grind arith
 
 owed_idle : (e : End) → owed CloseReply e ≡ true → is_copying e.sides.pull ≡ false
 owed_idle e h = by e.shake.sent.close_request e.shake.got.close_request e.shake.sent.close_reply (is_copying e.sides.pull) h where
@@ -301,11 +309,9 @@ module _ (x y : Area) (q c : ℕ) (e : End) where
       (λ u v rs ss b l.
       let t = is_begun (with_sent OpenRequest e).local in
       let z = rest_sent t (sent_begun OpenRequest n e.shake.sent (is_some e.shake.reason)) u v rs ss b l in
-      let off : e.shake.sent.open_complete ≡ false = unopened_sent (control e) d.2 l.flags.fit_a in
-      let i = l.rest.mine.out off in
-      record { rest = requests u v x.ring y.ring (with_notes q c (opened_notes e) rs) ss (record (parts e) { begun = t }) (parts b) (new_sending (entries_in e.registration) (limit_in e.registration)) off (record { put = refl; known = refl; next = refl; stored = refl }) ready.0 ready.1 z.0; others = z.1; apart = z.2 })
-      (λ u v rs ss b l. sends_oreq x.sheet y.sheet (terms e) (terms b) l.argued d.0 ready.2 (λ i g. (let t = got_oreq (control e) (control b) (five x.flags) (five y.flags) i g l.flags in let f = d.2 in absurd (cc))) (unreplied_sent (control e) d.2 l.flags.fit_a)) tt
-  sends_flag OpenReply o ready n = then_changed x y (flagged y OpenReply) q c e (with_sent OpenReply e) refl refl refl (λ b s. flags_kept (Send Orep) (control e) b (five x.flags) (five y.flags) (owed_orep e o) s) (λ u v rs ss b l. only_sent OpenReply u v rs ss b refl (sent_begun OpenReply n e.shake.sent (is_some e.shake.reason)) l) (λ u v rs ss b l. sends_orep x.sheet y.sheet (terms e) (terms b) l.argued ready (owed_equal e o)) tt
+      record { rest = requests u v x.ring y.ring (with_notes q c (opened_notes e) rs) ss (record (parts e) { begun = t }) (parts b) ready.0 ready.1 z.0; others = z.1; apart = z.2 })
+      (λ u v rs ss b l. sends_oreq x.sheet y.sheet (terms e) (terms b) l.argued d.0 ready.2 (λ i g. (let t = got_oreq (control e) (control b) (five x.flags) (five y.flags) i g l.flags in let f = d.2 in absurd (cc))) (unreplied_sent (control e) d.2 l.flags.fit_a) (unopened_sent (control e) d.2 l.flags.fit_a)) tt
+  sends_flag OpenReply o ready n = then_changed x y (flagged y OpenReply) q c e (with_sent OpenReply e) refl refl refl (λ b s. flags_kept (Send Orep) (control e) b (five x.flags) (five y.flags) (owed_orep e o) s) (λ u v rs ss b l. only_sent OpenReply u v rs ss b refl (sent_begun OpenReply n e.shake.sent (is_some e.shake.reason)) l) (λ u v rs ss b l. sends_orep x.sheet y.sheet (terms e) (terms b) l.argued ready (owed_agreed e o).2) tt
   sends_flag OpenComplete o ready n =
       let d = owed_ocomp e o in
       then_changed x y (flagged y OpenComplete) q c e (with_sent OpenComplete e) refl refl refl (λ b s. flags_kept (Send Ocomp) (control e) b (five x.flags) (five y.flags) d s)
@@ -314,9 +320,14 @@ module _ (x y : Area) (q c : ℕ) (e : End) where
       let own = l.flags.fit_a.orep d.1 in
       let zeros = z.rest.mine.ready own.0 in
       let even = opening_even (control e) (control b) (five x.flags) (five y.flags) d l.flags in
-      let size = l.argued.hears.sizes (sym even) own.1 in
       let asked = got_oreq (control b) (control e) (five y.flags) (five x.flags) (sym even) own.1 (turned_flags (control e) (control b) (five x.flags) (five y.flags) l.flags) in
-      record { rest = opens u v x.ring y.ring (with_notes q c (opened_notes e) rs) ss (record (parts e) { begun = true }) (parts b) (is_begun (with_sent OpenComplete e).local) (sent_begun OpenComplete n e.shake.sent (is_some e.shake.reason)) d.3 zeros.0 zeros.1 z.first even (l.argued.mine.size own.0) (subst (λ (k : Size). IsRequestSize k.entries k.limit) (sym size) (l.argued.theirs.size asked)) (λ t. (l.argued.heard.sizes even (l.flags.fit_b.orep (l.flags.fit_b.ocomp t).0).1, sym size)) z.rest; others = z.others; apart = z.apart })
+      let sizes = agreed_sizes x.sheet y.sheet (terms e) (terms b) l.argued even own.0 own.1 asked in
+      let zs = with_notes q c (opened_notes e) rs in
+      let anew = (end_sent OpenComplete e).sides in
+      let inn : InSide = record (in_side e) { pull = anew.pull } in
+      let i = z.rest.mine.inn d.3 in
+      let rest = sides_anew u v x.ring y.ring zs ss (record (parts e) { begun = true }) (parts b) anew.send inn d.3 (record { put = refl; known = refl; next = refl; stored = refl }) (record { stored = i.stored; front = i.front; later = i.later; count = refl; cache = refl; pulled = refl; seen = refl; copied = refl }) z.rest in
+      record { rest = opens u v x.ring y.ring zs ss (record (parts e) { begun = true; send = anew.send; inn = inn }) (parts b) (is_begun (with_sent OpenComplete e).local) (sent_begun OpenComplete n e.shake.sent (is_some e.shake.reason)) d.3 zeros.0 zeros.1 z.first even sizes.own sizes.their (λ t. sizes.fit t (l.flags.fit_b.orep (l.flags.fit_b.ocomp t).0).1) rest; others = z.others; apart = z.apart })
       (λ u v rs ss b l. sends_ocomp x.sheet y.sheet (terms e) (terms b) l.argued) tt
   sends_flag CloseRequest o ready n = then_changed x y (flagged y CloseRequest) q c e (with_sent CloseRequest e) refl refl refl (λ b s. flags_kept (Send Creq) (control e) b (five x.flags) (five y.flags) (owed_creq e o) s) (λ u v rs ss b l. only_sent CloseRequest u v rs ss b refl (sent_begun CloseRequest n e.shake.sent (is_some e.shake.reason)) l) (λ u v rs ss b l. sends_creq x.sheet y.sheet (terms e) (terms b) l.argued ready) tt
   sends_flag CloseReply o ready n = then_changed x y (flagged y CloseReply) q c e (with_sent CloseReply e) refl refl refl (λ b s. flags_kept (Send Crep) (control e) b (five x.flags) (five y.flags) (owed_crep e o) s) (λ u v rs ss b l. only_sent CloseReply u v rs ss b refl (sent_begun CloseReply n e.shake.sent (is_some e.shake.reason)) l) (λ u v rs ss b l. sends_crep x.sheet y.sheet (terms e) (terms b) l.argued (owed_idle e o)) tt
@@ -384,17 +395,13 @@ module _ (x y : Area) (q c : ℕ) where
     request h (Some w) r some =
         let n = next_oreq e.shake.got.close_request e.shake.taken h in
         let e' = kind_got OpenRequest e in
-        let e'' = record e' { sides = record e'.sides { pull = record e.sides.pull { entries = (size_in w).entries; limit = (size_in w).limit; copied = []; run = 0 } } } in
-        let is : (u v : Session) (rs ss : List Recorded) (b : End) → Line u v x y rs ss (view e) (view b) → (size_in w ≡ out_size b.sides.send) × (is_request w ≡ true) = λ u v rs ss b l. request_is x.sheet y.sheet (terms e) (terms b) l.argued w r (sent_oreq (control b) (control e) (five y.flags) (five x.flags) n.0 (turned_flags (control e) (control b) (five x.flags) (five y.flags) l.flags)) in
+        let e'' = record e' { shake = record e'.shake { their_size = Some (size_in w) } } in
+        let is : (u v : Session) (rs ss : List Recorded) (b : End) → Line u v x y rs ss (view e) (view b) → (size_in w ≡ size_sent b) × (is_request w ≡ true) = λ u v rs ss b l. request_is x.sheet y.sheet (terms e) (terms b) l.argued w r (sent_oreq (control b) (control e) (five y.flags) (five x.flags) n.0 (turned_flags (control e) (control b) (five x.flags) (five y.flags) l.flags)) in
         let good = then_changed x y y q c e (just e'') refl refl refl (λ b s. flags_kept (Handle Oreq) (control e) b (five x.flags) (five y.flags) n s)
+        (λ u v rs ss b l. same_rest u v rs ss b e'' l.rest)
         (λ u v rs ss b l.
-        let off : e.shake.sent.open_complete ≡ false = unopened_got (control e) (not_refused _ _ (fine_oreq (control e) (control b) (five x.flags) (five y.flags) n l.flags)) l.flags.fit_a in
-        let i = l.rest.mine.inn off in
-        same_rest u v rs ss b e'' (sized_in u v x.ring y.ring rs ss (parts e) (parts b) (in_side e'') off (record { stored = i.stored; front = i.front; later = i.later; count = i.count; cache = i.cache; pulled = i.pulled; seen = i.seen; copied = refl }) l.rest))
-        (λ u v rs ss b l.
-        let off : e.shake.sent.open_complete ≡ false = unopened_got (control e) (not_refused _ _ (fine_oreq (control e) (control b) (five x.flags) (five y.flags) n l.flags)) l.flags.fit_a in
-        subst (λ (xs : List ℕ). Argued x.sheet y.sheet (terms (record e'' { sides = record e''.sides { pull = record e''.sides.pull { copied = xs } } })) (terms b)) (l.rest.mine.inn off).copied
-        (gets_oreq x.sheet y.sheet (terms e) (terms b) l.argued (size_in w) (is u v rs ss b l).0 (unreplied_got (control e) (not_refused _ _ (fine_oreq (control e) (control b) (five x.flags) (five y.flags) n l.flags)) l.flags.fit_a))) tt in
+        let fine = not_refused _ _ (fine_oreq (control e) (control b) (five x.flags) (five y.flags) n l.flags) in
+        gets_oreq x.sheet y.sheet (terms e) (terms b) l.argued (size_in w) (is u v rs ss b l).0 (unreplied_got (control e) fine l.flags.fit_a) (unopened_got (control e) fine l.flags.fit_a)) tt in
         record {
           by = λ u v rs ss b l.
               let P : Bool → Type 0 = λ z. let f = and_then (cond z (just e'') (channel_closed (BadArgs w) e')) changed in Went u v x y rs (with_notes q c f.notes rs) ss (view f.local) (view b) f.reason in
@@ -611,7 +618,7 @@ down_size reason e h = by (is_begun e) e.shake.reason where
   closed true None = ap (λ (v : View). v.terms.registration) (view_hears (down_notes reason e) (down_end reason e) (down_silent reason e))
   closed false o = refl
 
-  by : (b : Bool) (o : Option Reason) → HasSize (and_then (cond b (close_now o reason e) (just e)) (λ x. just (record x { shake = record x.shake { owes_message = false; meet = None } }))).local
+  by : (b : Bool) (o : Option Reason) → HasSize (and_then (cond b (close_now o reason e) (just e)) (λ x. just (parted x))).local
   by b o z d = h z (sym (closed b o) ∙ d)
 
 pub down_clean : (reason : Reason) (e : End) → IsUnrefused (link_down reason e).reason

@@ -125,6 +125,7 @@ stays x y q c e = record { by = λ u v rs ss b l. record { line = l; others = λ
 pub record Open (x y : Area) (e : End) : Type 0 where
   pub on : is_some e.shake.meet ≡ true
   pub begun : is_begun e ≡ true
+  pub opened : e.shake.sent.open_complete ≡ true
   pub copy : (b : Control) → Sound (control e) b (five x.flags) (five y.flags) → Copying (control e)
 
 begun_by : (e : End) → e.shake.sent.open_complete ≡ true → is_begun e ≡ true
@@ -149,7 +150,7 @@ joined_by None false true true false h = absurd (cc)
 pub open_connected : (x y : Area) (e : End) → link_of e ≡ Connected → Open x y e
 open_connected x y e h =
     let j = joined_by e.shake.reason e.shake.sent.open_request (is_some e.shake.meet) e.shake.sent.open_complete e.shake.got.open_complete h in
-    record { on = j.meet; begun = begun_by e j.sent; copy = λ b s. (j.sent, j.got, unclosed (control e) b (five x.flags) (five y.flags) j.reason s) }
+    record { on = j.meet; begun = begun_by e j.sent; opened = j.sent; copy = λ b s. (j.sent, j.got, unclosed (control e) b (five x.flags) (five y.flags) j.reason s) }
 
 not_true : (b : Bool) → not b ≡ true → b ≡ false
 not_true true h = absurd (cc)
@@ -160,7 +161,7 @@ open_copy x y e h =
     let a = and_parts _ _ h in
     let b = and_parts _ _ a.0 in
     let d = and_parts _ _ b.1 in
-    record { on = b.0; begun = begun_by e d.0; copy = λ z s. (d.0, d.1, not_true _ a.1) }
+    record { on = b.0; begun = begun_by e d.0; opened = d.0; copy = λ z s. (d.0, d.1, not_true _ a.1) }
 
 connected_by : (o : Option Reason) (a b : Bool) → (b && not (is_some o)) ≡ true → state_by o a b ≡ Connected
 connected_by (Some r) a true h = absurd (cc)
@@ -182,7 +183,7 @@ abbrev pub ringed : Area → Data → Area
 ringed x d = record x { ring = d }
 
 pub live : (x y : Area) (d : Data) (q c : ℕ) (n : Recorded → Recorded) (e : End) (f : Effect End (List Note)) → ((r : Recorded) (more : List Recorded) → with_notes q c f.notes (r ∷ more) ≡ n r ∷ more) → ((r : Recorded) → name_of (n r) ≡ name_of r) → Open x y e →
-    view f.local ≡ record (view e) { parts = record (parts e) { send = f.local.sides.send; inn = in_side f.local }; terms = record (terms e) { own = out_size f.local.sides.send; their = in_size f.local.sides.pull; copying = is_copying f.local.sides.pull } } → sizes f.local.sides.send (in_side f.local) ≡ sizes e.sides.send (in_side e) → Cleans x y e f.reason → Both x y d n e f.local → Lives x y (ringed x d) y q c e f
+    view f.local ≡ record (view e) { parts = record (parts e) { send = f.local.sides.send; inn = in_side f.local }; terms = record (terms e) { sending = out_size f.local.sides.send; pulling = in_size f.local.sides.pull; copying = is_copying f.local.sides.pull } } → sizes f.local.sides.send (in_side f.local) ≡ sizes e.sides.send (in_side e) → Cleans x y e f.reason → Both x y d n e f.local → Lives x y (ringed x d) y q c e f
 live x y d q c n e f notes one opens same sz clean both = record { by = λ u v rs ss b l. by u v rs ss b l (l.rest.mine.first opens.begun) } where
   by : (u v : Session) (rs ss : List Recorded) (b : End) → Line u v x y rs ss (view e) (view b) → HasFirst (at u v e.epoch) rs → Went u v (ringed x d) y rs (with_notes q c f.notes rs) ss (view f.local) (view b) f.reason
   by u v [] ss b l has = absurd has
@@ -191,10 +192,10 @@ live x y d q c n e f notes one opens same sz clean both = record { by = λ u v r
       let a = sends_now u v x.ring y.ring d n z more ss (parts e) (parts b) f.local.sides.send (in_side f.local) (one z) o.own o.their o.even has l.rest in
       let g = gets_now u v x.ring y.ring d n z more ss (parts e) (parts b) f.local.sides.send (in_side f.local) (one z) o.own o.their o.even has l.rest in
       let k = both z (named v u b.epoch ss) b.sides.send (in_side b) a g in
-      let S : Sizes → Type 0 = λ w. Argued x.sheet y.sheet (record (terms e) { own = record { entries = w.entries; limit = w.limit }; their = record { entries = w.their_entries; limit = w.their_limit }; copying = is_copying f.local.sides.pull }) (terms b) in
+      let S : Sizes → Type 0 = λ w. Argued x.sheet y.sheet (record (terms e) { sending = record { entries = w.entries; limit = w.limit }; pulling = record { entries = w.their_entries; limit = w.their_limit }; copying = is_copying f.local.sides.pull }) (terms b) in
       let argued = subst S (sym sz) (copies_terms x.sheet y.sheet (terms e) (terms b) l.argued (is_copying f.local.sides.pull) (opens.copy (control b) l.flags).2) in
       subst (λ (w : View). Went u v (ringed x d) y (z ∷ more) (with_notes q c f.notes (z ∷ more)) ss w (view b) f.reason) (sym same)
-      (subst (λ (zs : List Recorded). Went u v (ringed x d) y (z ∷ more) zs ss (record (view e) { parts = record (parts e) { send = f.local.sides.send; inn = in_side f.local }; terms = record (terms e) { own = out_size f.local.sides.send; their = in_size f.local.sides.pull; copying = is_copying f.local.sides.pull } }) (view b) f.reason) (sym (notes z more))
+      (subst (λ (zs : List Recorded). Went u v (ringed x d) y (z ∷ more) zs ss (record (view e) { parts = record (parts e) { send = f.local.sides.send; inn = in_side f.local }; terms = record (terms e) { sending = out_size f.local.sides.send; pulling = in_size f.local.sides.pull; copying = is_copying f.local.sides.pull } }) (view b) f.reason) (sym (notes z more))
       (record {
         line = record { meet = l.meet; their_meet = l.their_meet; flags = l.flags; rest = went_on u v x.ring y.ring d n z more ss (parts e) (parts b) f.local.sides.send (in_side f.local) (one z) o.own o.their o.even has l.rest k.0 k.1; argued = argued };
         others = λ j w. ap core (name_other u v e.epoch (n z) more (one z ∙ has) j w ∙ sym (name_other u v e.epoch z more has j w));

@@ -23,7 +23,7 @@ use Rattle.xp_protocol.specs.Effects.{Effect, just, and_then, SendNote, Accepted
 use Rattle.xp_protocol.specs.Sending.{ring_effect}
 use Rattle.xp_protocol.specs.Pulling.{pull_effect}
 use Rattle.xp_protocol.specs.State.{State, End, Size, Replied, Contact, Peer, Reading, end_of, peer_of, peer_at, link_at, is_begun, is_connected}
-use Rattle.xp_protocol.specs.Linking.{hear, hears, by_send, by_pull, sender_counters, release_notes, acknowledged, down_notes, down_end, close_now, link_closed, link_down, over_note, over_notes, kept_for, link_finished, open_notes, opened_notes, channel_closed, epoch_over, is_ended, unequal, are_unequal, changed, request_handled, reply_handled, code_handled, is_request, is_code, kind_got, kind_refused, refused, well_handled, handled, has_argument, handled_next, settle, settled as all_settled, joined_notes, connection_noted, with_taken, flags_got, end_sent, with_sent, control_sent, flag_sent, with_argument, argument_stored, link_effect}
+use Rattle.xp_protocol.specs.Linking.{hear, hears, by_send, by_pull, sender_counters, release_notes, acknowledged, down_notes, down_end, close_now, link_closed, link_down, over_note, over_notes, kept_for, link_finished, open_notes, opened_notes, channel_closed, epoch_over, is_ended, unequal, are_unequal, changed, request_handled, reply_handled, code_handled, is_request, is_code, kind_got, kind_refused, refused, well_handled, handled, has_argument, handled_next, settle, settled as all_settled, joined_notes, connection_noted, with_taken, flags_got, end_sent, with_sent, control_sent, flag_sent, with_argument, argument_stored, link_effect, parted, limit_in}
 use Rattle.xp_protocol.specs.Peering.{same_peer, is_bad_flags, area_left_for, contact_made, try_contact, record_read, peer_effect, area_off, peer_read, is_left, is_flagged, is_magic, is_wrong, has_shown, Here}
 use Rattle.xp_protocol.specs.Rules.{here_of, link_answered, peer_numbered, mark_of, place_for, after_answer, noted_rule}
 use Rattle.xp_protocol.specs.Promised.{is_withdrawal, are_withdrawals}
@@ -136,7 +136,7 @@ ends_by e f same notes = record {
 }
 
 changes : (e : End) → Leaves e (changed e)
-changes e = either (is_ended e) e (epoch_over e) (unequal e) (ends_by e (epoch_over e) refl refl) (either (are_unequal e) e (channel_closed (UnequalSizes e.sides.send.limit e.sides.pull.limit) e) (just e) (closes (UnequalSizes e.sides.send.limit e.sides.pull.limit) e) (calm e (just e) refl refl))
+changes e = either (is_ended e) e (epoch_over e) (unequal e) (ends_by e (epoch_over e) refl refl) (either (are_unequal e) e (channel_closed (UnequalSizes (limit_in e.shake.own_size) (limit_in e.shake.their_size)) e) (just e) (closes (UnequalSizes (limit_in e.shake.own_size) (limit_in e.shake.their_size)) e) (calm e (just e) refl refl))
 
 -- a flag is handled
 got_same : (k : Kind) (e : End) (f : Effect End (List Note)) → Leaves (kind_got k e) f → Leaves e f
@@ -230,7 +230,7 @@ link_leaves place e (StoreArgument x) w = calm e (just (argument_stored x e)) (s
 link_leaves place e (ReadArgument x) w = then_leaves e (just (with_argument x place w e)) all_settled (calm e (just (with_argument x place w e)) (read_same x place w e) refl) (settles_all (with_argument x place w e))
 
 goes_down : (reason : Reason) (e : End) → Leaves e (link_down reason e)
-goes_down reason e = then_leaves e (link_closed reason e) (λ x. just (record x { shake = record x.shake { owes_message = false; meet = None } })) (either (is_begun e) e (close_now e.shake.reason reason e) (just e) (closes_now e.shake.reason reason e) (calm e (just e) refl refl)) (calm _ _ refl refl)
+goes_down reason e = then_leaves e (link_closed reason e) (λ x. just (parted x)) (either (is_begun e) e (close_now e.shake.reason reason e) (just e) (closes_now e.shake.reason reason e) (calm e (just e) refl refl)) (calm _ _ refl refl)
 
 -- each rule
 abbrev Left : End → List Note → Type 0

@@ -87,7 +87,7 @@ abbrev line : Link
 line = record { partner = 1; channel = 0; entries = 8; limit = 112 }
 
 abbrev first : Two
-first = record { a = warm_end 0 line; b = warm_end 1 (record line { partner = 0 }); to_a = no_kinds; to_b = no_kinds; by_a = record { request = 524400; reply = 2640; code = 0 }; by_b = record { request = 524400; reply = 2128; code = 0 } }
+first = record { a = warm_end false line; b = warm_end false (record line { partner = 0 }); to_a = no_kinds; to_b = no_kinds; by_a = record { request = 524400; reply = 2640; code = 0 }; by_b = record { request = 524400; reply = 2128; code = 0 } }
 
 -- a withdraws its registration; b hears of it, and closes too
 abbrev closing : List Turn

@@ -82,7 +82,7 @@ pub record MetAt (s : ScenarioPart) (q : ℕ) (e : End) : Type 0 where
   pub is : e ≡ first_met (opened_new s q) idle_end
 
 -- before it there are all, and none is begun
-off_all : (n : ℕ) (ls : List Link) → AreAll n (first_peers n ls)
+pub off_all : (n : ℕ) (ls : List Link) → AreAll n (first_peers n ls)
 unfolding first_peers
 off_all n ls = record { partners = length-replicate {A = Peer} n (base_peer ls); channels = λ q. off_links q (cases_lt q n) } where
   off_links : (q : ℕ) → (q < n) ⊎ (n ≤ q) → length (peer_at (replicate n (base_peer ls)) q).links ≡ 4
