@@ -3,7 +3,7 @@ use Rattle.std.proofs.Common.{◌≡◌, ◌+◌, ℕ, Bool, true, false, cond, 
 use Rattle.xp_base.specs.declared.link.Kind.{Kind}
 use Rattle.xp_base.specs.declared.link.Kind.TheVariants.{CloseRequest, CloseReply, OpenRequest, OpenReply, OpenComplete}
 use Rattle.xp_base.specs.Kinds.{Kinds, has, no_kinds}
-use Rattle.xp_protocol.specs.State.{End, Size}
+use Rattle.xp_protocol.specs.State.{End}
 use Rattle.xp_protocol.specs.Promised.{those_in, sent_order, next_order, IsQueue, AreArguments}
 use Rattle.xp_promises.proofs.FlagEnds.{Kinds as Five, no_kinds as no_five}
 use Rattle.xp_promises.proofs.FlagKept.{Slot, Even, Ahead, Fitting, Sound, epochs}

@@ -5,7 +5,6 @@ use Rattle.xp_base.specs.declared.link.Kind.{Kind}
 use Rattle.xp_base.specs.declared.link.Kind.TheVariants.{CloseRequest, CloseReply, OpenRequest, OpenReply, OpenComplete, MsgRequest}
 use Rattle.xp_base.specs.declared.reason.Reason.{Reason}
 use Rattle.xp_base.specs.declared.reason.Reason.TheVariants.{PartnerClosed, UnequalSizes, BadArgs}
-use Rattle.xp_protocol.specs.Parts.{IsRequestSize}
 use Rattle.xp_base.specs.Kinds.{has as kind_has}
 use Rattle.xp_base.specs.Kinds.{Kinds, also, without, no_kinds, next_of}
 use Rattle.xp_protocol.specs.Records.{Recorded, blank_record, has_begun}
@@ -24,7 +23,7 @@ use Rattle.xp_meetings.proofs.Touch.{IsWaiting}
 use Rattle.xp_promises.proofs.FlagKept.{Sound, flags_kept, again, settled_yes, settled_no as settled_kept, fine_oreq, fine_orep, fine_ocomp, fine_creq, fine_crep}
 use Rattle.xp_promises.proofs.FlagUse.{unopened_sent, unreplied_sent, unreplied_got, not_refused, reply_after, sent_oreq, sent_orep, sent_creq, got_oreq, opening_even, unopened_got}
 use Rattle.xp_promises.proofs.Arguments.{Sheet, Argued, kept_some, takes_terms, closes_terms, sends_oreq, sends_orep, sends_ocomp, sends_creq, sends_crep, agreed_sizes, request_is, code_is, gets_oreq, gets_orep, gets_ocomp, gets_creq, gets_crep, ends_terms, stores_request, stores_reply, stores_code, reads_request, reads_reply, reads_code}
-use Rattle.xp_protocol.specs.State.{Size, Replied, size_in}
+use Rattle.xp_protocol.specs.State.{Replied, size_in}
 use Rattle.xp_protocol.specs.Pulling.{is_copying}
 use Rattle.xp_protocol.specs.declared.rule.Argument.{Argument}
 use Rattle.xp_protocol.specs.declared.rule.Argument.TheVariants.{Request, Reply, Code}

@@ -1,6 +1,6 @@
 -- That the rules can be met: two ends close their connection, since one withdraws its registration; fail to open the next epoch, since their limits are unequal;
--- and open the one after it, with other sizes.
-use Rattle.std.proofs.Common.{◌≡◌, ℕ, false, List, [], ◌∷◌, refl, Some, None}
+-- open the one after it, with other sizes; and agree on the lesser of two limits, where both versions know entries of several lines.
+use Rattle.std.proofs.Common.{◌≡◌, ℕ, true, false, List, [], ◌∷◌, refl, Some, None}
 use Rattle.xp_base.specs.declared.link.Kind.TheVariants.{CloseRequest, CloseReply, OpenRequest, OpenReply, OpenComplete}
 use Rattle.xp_base.specs.declared.link.LinkState.TheVariants.{Connected, Closing}
 use Rattle.xp_base.specs.declared.reason.Reason.TheVariants.{UnequalSizes}
@@ -13,6 +13,8 @@ use Rattle.xp_protocol.specs.declared.rule.LinkRule.TheVariants.{SetFlag, ZeroGe
 use Rattle.xp_protocol.specs.State.{End, Size, idle_end, no_shake, first_contact, warm_end, link_of, may_copy}
 use Rattle.xp_protocol.specs.Linking.{link_can, link_effect, argument_word, flags_got, settled}
 use Rattle.xp_protocol.specs.Acts.{register_begun, unregister_begun}
+use Rattle.xp_protocol.specs.Sending.{new_sending}
+use Rattle.xp_protocol.specs.Pulling.{new_pulling}
 
 -- the argument words of an end
 record Three : Type 0 where
@@ -148,13 +150,17 @@ blank = record idle_end { epoch = 2; shake = record no_shake { meet = Some first
 abbrev both_blank : Two
 both_blank = record first { a = blank; b = blank }
 
--- both register with one limit, and open
-abbrev opening : List Turn
-opening =
-    RegisterA (record { entries = 4; limit = 64 }) ∷ RegisterB (record { entries = 2; limit = 64 }) ∷ ByA ZeroGet ∷ ByA ZeroPut ∷ ByA (StoreArgument Request) ∷ ByA (SetFlag OpenRequest)
+-- once both are registered, they open
+abbrev after_registers : List Turn
+after_registers =
+    ByA ZeroGet ∷ ByA ZeroPut ∷ ByA (StoreArgument Request) ∷ ByA (SetFlag OpenRequest)
     ∷ TakenByB ∷ ByB (ReadArgument Request) ∷ ByB ZeroPut ∷ ByB ZeroGet ∷ ByB (StoreArgument Request) ∷ ByB (SetFlag OpenRequest)
     ∷ ByB (StoreArgument Reply) ∷ ByB (SetFlag OpenReply) ∷ TakenByA ∷ ByA (ReadArgument Reply) ∷ ByA (ReadArgument Request) ∷ ByA (StoreArgument Reply)
     ∷ ByA (SetFlag OpenReply) ∷ ByA (SetFlag OpenComplete) ∷ TakenByB ∷ ByB (ReadArgument Reply) ∷ ByB (SetFlag OpenComplete) ∷ TakenByA ∷ []
+
+-- with one limit
+abbrev opening : List Turn
+opening = RegisterA (record { entries = 4; limit = 64 }) ∷ RegisterB (record { entries = 2; limit = 64 }) ∷ after_registers
 
 opening_runs : Runs opening both_blank
 unfolding settled
@@ -166,3 +172,21 @@ opened = after opening both_blank
 again : (opened.a.epoch ≡ 2) × (opened.b.epoch ≡ 2) × (link_of opened.a ≡ Connected) × (link_of opened.b ≡ Connected) × (opened.a.sides.send.entries ≡ 4) × (opened.a.sides.pull.entries ≡ 2) × (opened.b.sides.pull.limit ≡ 64)
 unfolding settled
 again = (refl, refl, refl, refl, refl, refl, refl)
+
+-- both versions know entries of several lines, and the limits differ: the lesser is agreed, for both directions
+abbrev blank_new : End
+blank_new = record blank { shake = record no_shake { meet = Some first_contact; both_new = true } }
+
+abbrev differing : List Turn
+differing = RegisterA (record { entries = 4; limit = 64 }) ∷ RegisterB (record { entries = 2; limit = 112 }) ∷ after_registers
+
+differing_runs : Runs differing (record first { a = blank_new; b = blank_new })
+unfolding settled
+differing_runs = (tt, (tt, ((refl, refl, refl), ((refl, refl, refl), ((refl, refl), ((refl, refl, (refl, refl, refl)), (tt, ((refl, refl, refl), ((refl, refl, refl), ((refl, refl, refl), ((refl, refl), ((refl, refl, (refl, refl, refl)), ((refl, refl), ((refl, refl, refl), (tt, ((refl, refl, refl), ((refl, refl, refl), ((refl, refl), ((refl, refl, refl), ((refl, refl, tt), (tt, ((refl, refl, refl), ((refl, refl, tt), (tt, tt))))))))))))))))))))))))
+
+abbrev agreed : Two
+agreed = after differing (record first { a = blank_new; b = blank_new })
+
+lesser_agreed : (link_of agreed.a ≡ Connected) × (link_of agreed.b ≡ Connected) × (agreed.a.sides.send ≡ new_sending 4 64) × (agreed.a.sides.pull ≡ new_pulling 2 64) × (agreed.b.sides.send ≡ new_sending 2 64) × (agreed.b.sides.pull ≡ new_pulling 4 64)
+unfolding settled
+lesser_agreed = (refl, refl, refl, refl, refl, refl)
