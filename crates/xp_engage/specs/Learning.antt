@@ -1,6 +1,7 @@
 -- What a node tells of a partner: what a look showed, that it is wanted or not, words of the own
--- memory that were taken or loaded, a mask that was stored, and a reason to deactivate it.
-use Rattle.std.specs.Prelude.{ℕ, Bool, true, false, not, ◌&&◌, Option, Some, None}
+-- memory that were taken or loaded, flag words among them, a mask that was stored, and a reason to
+-- deactivate it.
+use Rattle.std.specs.Prelude.{ℕ, Bool, true, false, not, ◌&&◌, if◌then◌else◌, bit_or, Option, Some, None}
 use Rattle.xp_base.specs.declared.reason.Reason.{Reason}
 use Rattle.xp_base.specs.declared.session.Session.{Session}
 use Rattle.xp_base.specs.declared.reason.Reason.TheVariants.{Unloading}
@@ -10,7 +11,7 @@ use Rattle.xp_protocol.specs.declared.contact.PartnerState.{PartnerState as Stan
 use Rattle.xp_protocol.specs.declared.contact.PartnerState.TheVariants as states
 use Rattle.xp_protocol.specs.State.{Contact, Engage}
 use Rattle.xp_protocol.specs.Acts.{unwanted, wanted_again}
-use Rattle.xp_protocol.specs.Peering.{with_reason, look_reason, deactivation_heard, peer_read, is_left, is_flagged}
+use Rattle.xp_protocol.specs.Peering.{with_reason, look_reason, deactivation_heard, peer_read, is_left, is_flagged, both_new_by}
 use Rattle.xp_discover.specs.declared.look.LookAnswer.{LookAnswer}
 use Rattle.xp_discover.specs.declared.look.LookAnswer.TheVariants as answers
 use Rattle.xp_engage.specs.declared.area.PartnerState.{PartnerState}
@@ -45,7 +46,15 @@ stamp_shown answer = 0
 abbrev pub looked_at : LookAnswer → Partner → Partner
 looked_at answer x =
     faulted (look_reason x.engage.echo (shown_by answer) (stamp_shown answer))
-    (record x { look = shown_by answer })
+    (record x {
+      look = shown_by answer;
+      both_new = both_new_by x.version (shown_by answer) x.both_new;
+    })
+
+-- flags were taken, where another one waits to be handled at an end or none does
+abbrev pub flags_noted : ℕ → Bool → Partner → Partner
+flags_noted word waits x =
+    record x { flags_seen = if waits then bit_or x.flags_seen word else word }
 
 -- the own deactivation word was taken, and the own engagement word was loaded
 abbrev pub heard : ℕ → Partner → Partner

@@ -12,43 +12,52 @@ use Rattle.xp_protocol.specs.declared.contact.Look.TheVariants.{Unseen}
 use Rattle.xp_protocol.specs.declared.rule.PeerRule.{PeerRule}
 use Rattle.xp_protocol.specs.declared.rule.PeerRule.TheVariants.{TakeFlags, LookAtPage, ReadRecord, Prepare, OpenArea}
 use Rattle.xp_protocol.specs.Effects.{Effect, Note, Row}
-use Rattle.xp_protocol.specs.State.{State, Up, Peer, peer_of, Engage, Contact, warm_engage, first_contact, idle_links, none_going}
+use Rattle.xp_protocol.specs.State.{State, Up, Peer, peer_of, Engage, Contact, warm_engage, first_contact, idle_links, none_going, are_new}
 use Rattle.xp_protocol.specs.Peering.{Here, peer_can, peer_row, peer_effect, copies_go_on, IsAreaWord}
 use Rattle.xp_protocol.specs.Rules.{here_of, peer_answered, peer_life}
 use Rattle.xp_protocol.specs.Wanting.{mark_with, wanted_at}
 
--- the partition and the partner by their numbers, for how many turns backing off lasts, the stamp of
--- the boot, and whether the mask that was stored has the partner's bit
+-- the partition and the partner by their numbers, the own version, for how many turns backing off
+-- lasts, the stamp of the boot, and whether the mask that was stored has the partner's bit
 pub record Partner : Type 0 where
   pub own : ℕ
   pub partner : ℕ
+  pub version : ℕ
   pub wait : ℕ
   pub stamp : ℕ
   pub masked : Bool
   pub wanted : Bool
   pub look : Look
+  pub both_new : Bool
+  pub flags_seen : ℕ
   pub engage : Engage
   pub contact : Option Contact
 
--- a partner in a boot, one of a partition that opens booted, and one that is in contact then
-abbrev pub new_partner : ℕ → ℕ → ℕ → Engage → ℕ → Partner
-new_partner own partner stamp engage window = record {
+-- a partner in a boot, one of a partition that opens booted, and one that is in contact then, of
+-- which the version is known
+abbrev pub new_partner : ℕ → ℕ → ℕ → ℕ → Engage → ℕ → Partner
+new_partner own partner version stamp engage window = record {
   own = own;
   partner = partner;
+  version = version;
   wait = 2 * window;
   stamp = stamp;
   masked = false;
   wanted = true;
   look = Unseen;
+  both_new = false;
+  flags_seen = 0;
   engage = engage;
   contact = None;
 }
 
-abbrev pub warm_partner : ℕ → ℕ → ℕ → Partner
-warm_partner own partner window = record (new_partner own partner 1 warm_engage window) {
-  masked = true;
-  contact = Some first_contact;
-}
+abbrev pub warm_partner : ℕ → ℕ → ℕ → ℕ → ℕ → Partner
+warm_partner own partner version theirs window =
+    record (new_partner own partner version 1 warm_engage window) {
+      masked = true;
+      both_new = are_new version theirs;
+      contact = Some first_contact;
+    }
 
 -- the partner as the rules see it, with no end of a channel. Where another copy of its words goes on
 -- than that of its record, a look stands for it
@@ -57,6 +66,8 @@ alone_by copying x = record {
   wanted = x.wanted;
   look = x.look;
   paging = if copying then 0 ∷ [] else [];
+  both_new = x.both_new;
+  flags_seen = x.flags_seen;
   numbers = record { pages = 0; records = 0 };
   engage = x.engage;
   contact = x.contact;
@@ -71,6 +82,8 @@ abbrev pub seen_in : Partner → Peer → Partner
 seen_in x p = record x {
   wanted = p.wanted;
   look = p.look;
+  both_new = p.both_new;
+  flags_seen = p.flags_seen;
   engage = p.engage;
   contact = p.contact;
 }
@@ -79,6 +92,7 @@ seen_in x p = record x {
 abbrev pub here : ℕ → Partner → Here
 here turn x = record {
   part = x.own;
+  version = x.version;
   turn = turn;
   wait = x.wait;
   masked = x.masked;

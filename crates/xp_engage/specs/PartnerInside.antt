@@ -51,11 +51,14 @@ abbrev pub partner_seen : Inside → Partner
 partner_seen x = record {
   own = x.own;
   partner = x.partner;
+  version = x.version;
   wait = x.wait;
   stamp = x.stamp;
   masked = x.masked;
   wanted = x.wanted;
   look = x.look;
+  both_new = x.both_new;
+  flags_seen = x.flags_seen;
   engage = engage_seen x;
   contact = x.contact;
 }

@@ -27,6 +27,7 @@ pub enum AreaState {
 /// How a partition stands to a partner.
 #[derive(Clone, Copy)]
 pub enum PartnerState {
+    /// The partner isn't asked to be activated.
     Inactive,
     /// The partner was asked to be activated.
     Requested,
@@ -43,20 +44,29 @@ pub enum PartnerState {
 /// for each.
 #[derive(Clone, Copy)]
 pub struct StoredWords {
+    /// The session under which the memory is opened next.
     pub session: bool,
+    /// The echo, as 0.
     pub echo: bool,
+    /// The flag word, as 0.
     pub flags: bool,
+    /// Bit n of the record's word n: 3 to 7 say where something stands, how many channels there are,
+    /// and nothing.
     pub places: u8,
+    /// Bit `ARGS_WORDS * c + f` of argument word f of channel c, as 0.
     pub args: u16,
+    /// Bit `COUNTER_WORDS * c + f` of counter f of channel c, as 0.
     pub counters: u8,
 }
 
 /// The own memory for a partner, and what was stored in it.
 #[derive(Clone, Copy)]
 pub struct OwnArea {
+    /// Whether it is free, open to the partner, or left.
     pub state: AreaState,
     /// How many times it was opened in this boot.
     pub count: u32,
+    /// What was stored in it since it is free.
     pub stored: StoredWords,
     /// Whether the partner's bit in the own deactivation word was cleared since it is free.
     pub deactivation_cleared: bool,
@@ -71,6 +81,7 @@ pub struct OwnArea {
 /// The own bit in the partner's engagement word.
 #[derive(Clone, Copy)]
 pub struct OwnBit {
+    /// Whether it stands there.
     pub is_in: bool,
     /// Whether it goes again, since the partner's memory isn't open.
     pub back_off: bool,
@@ -87,7 +98,9 @@ pub struct RecordCopy {
     pub done: u8,
     /// Whether it was begun after the own echo was stored.
     pub after_echo: bool,
+    /// The magic that was loaded.
     pub magic: u64,
+    /// The partner's echo: 0 until three words were loaded.
     pub echo: u64,
 }
 
@@ -100,6 +113,7 @@ pub struct Exchange {
     pub echo: Option<u64>,
     /// Whether the partner has shown its second magic and the own session.
     pub shown: bool,
+    /// The copy that goes on.
     pub copy: Option<RecordCopy>,
 }
 

@@ -1,6 +1,6 @@
 // What is kept for a partner, as a machine.
 ghost use Rattle.std.specs.Prelude.{◌≡◌, ◌&&◌, nat_lt, Bool, ℕ, ◌<◌, ◌*◌, ◌-◌, ◌^◌, IfSome, IsSome, Some, None, true, false};
-ghost use Rattle.xp_protocol.specs.State.{Off, booted_engage, cold_engage};
+ghost use Rattle.xp_protocol.specs.State.{Off, are_new, booted_engage, cold_engage};
 ghost use Rattle.xp_base.specs.declared.step.OpKind.TheVariants.{Or, Store};
 ghost use Rattle.xp_base.specs.declared.layout.TheConstants.{RECORD_WORDS};
 ghost use Rattle.xp_base.specs.declared.reason.Reason.TheVariants.{CopyError};
@@ -10,17 +10,19 @@ ghost use Rattle.xp_protocol.specs.State.{State};
 ghost use Rattle.xp_protocol.specs.declared.rule.PeerRule.{PeerRule};
 ghost use Rattle.xp_protocol.specs.declared.rule.Rule.TheVariants.{Peer as ForPeer};
 ghost use Rattle.xp_protocol.specs.Rules.{Can, wanted_of};
-ghost use Rattle.xp_protocol.specs.Peering.{is_good, IsAreaWord, field_number, field_word, may_open, is_off, is_prepared, copies_go_on, try_contact, magic_read, place_read, last_read, record_read, is_wrong, look_reason, freed_engage};
+ghost use Rattle.xp_protocol.specs.Peering.{is_good, IsAreaWord, field_number, field_word, may_open, is_off, is_prepared, copies_go_on, try_contact, magic_read, place_read, last_read, record_read, is_wrong, look_reason, freed_engage, end_reason};
 ghost use Rattle.xp_engage.specs.PartnerInside.{area_seen, going};
 ghost use Rattle.xp_engage.specs.Partner.{new_partner, warm_partner, alone, alone_by, seen_in, here, step_wanted, made, stepped, step_reason, is_made, is_copy, IsStorable, IsPermitted, IsMade, MayAnswer, IsStateOf, unnumbered};
 ghost use Rattle.xp_plan.specs.PeerSteps.{prepare_at, engage_at, answer_at, record_at, leave_at, is_open_to, has_waited};
 ghost use Rattle.xp_engage.specs.Next.{partner_next, for_partner, wanted_for};
-ghost use Rattle.xp_engage.specs.Learning.{faulted, fed, wanted_as, shown_by, stamp_shown, looked_at, heard, engaged_by, is_freed, sessions_of, state_told};
+ghost use Rattle.xp_engage.specs.Learning.{faulted, fed, wanted_as, shown_by, stamp_shown, looked_at, heard, engaged_by, flags_noted, is_freed, sessions_of, state_told};
 
 use crate::area::{AreaState, Exchange, OwnArea, OwnBit, PartnerState, RecordCopy, StoredWords};
 use std::marker::Model;
 use xp_base::ids::{Channel, PartId};
-use xp_base::layout::{ACTIVATION, CHANNELS, DEACTIVATION, ENGAGED, FIRST, RECORD_WORDS, SECOND};
+use xp_base::layout::{
+    ACTIVATION, CHANNELS, DEACTIVATION, ENGAGED, FIRST, LINES_VERSION, RECORD_WORDS, SECOND,
+};
 use xp_base::masks::{bit, contains};
 use xp_base::places::{args, counters, flag_word, record};
 use xp_base::reason::Reason;
@@ -36,6 +38,8 @@ use xp_protocol::rule::{AreaWord, OwnRule, PeerRule, RecordField, Rule};
 pub struct PartnerEnd {
     own: PartId,
     partner: PartId,
+    /// The word of the own version.
+    version: u64,
     /// For how many turns no engagement bit is set after it was cleared.
     wait: u64,
     /// The stamp of this boot.
@@ -44,6 +48,10 @@ pub struct PartnerEnd {
     masked: bool,
     wanted: bool,
     look: Look,
+    /// Whether the own version and that of the last good look know entries of several lines.
+    both_new: bool,
+    /// The flag words that were taken since no flag waited to be handled.
+    flags_seen: u64,
     state: Standing,
     /// Why the partner is to be deactivated.
     reason: Option<Reason>,
@@ -89,23 +97,27 @@ impl PartnerEnd {
     fn cold(
         own: PartId,
         partner: PartId,
+        version: u64,
         stamp: u32,
         window: u64,
         state: AreaState,
         booted: bool,
     ) -> PartnerEnd
         requires { 2 * window < 2 ^ 64 }
-        ensures { result ≡ new_partner own partner stamp (record (cold_engage
+        ensures { result ≡ new_partner own partner version stamp (record (cold_engage
             (area_seen state)) { zeroed = booted; cleared = booted }) window }
     {
         PartnerEnd {
             own,
             partner,
+            version,
             wait: 2 * window,
             stamp,
             masked: false,
             wanted: true,
             look: Look::Unseen,
+            both_new: false,
+            flags_seen: 0,
             state: Standing::Inactive,
             reason: None,
             area: OwnArea {
@@ -128,31 +140,34 @@ impl PartnerEnd {
         }
     }
 
-    /// A partner in a boot of this stamp: the own memory for it is as a former boot left it.
-    pub fn new(own: PartId, partner: PartId, stamp: u32, window: u64) -> PartnerEnd
+    /// A partner in a boot of this stamp: the own memory for it is as a former boot left it. `version`
+    /// is the word of the own version, and `window` the scenario's: no engagement bit is set within
+    /// two windows after it was cleared.
+    pub fn new(own: PartId, partner: PartId, version: u64, stamp: u32, window: u64) -> PartnerEnd
         requires { 2 * window < 2 ^ 64 }
-        ensures { result ≡ new_partner own partner stamp booted_engage window }
+        ensures { result ≡ new_partner own partner version stamp booted_engage window }
     {
-        PartnerEnd::cold(own, partner, stamp, window, AreaState::Old, false)
+        PartnerEnd::cold(own, partner, version, stamp, window, AreaState::Old, false)
     }
 
     /// A partner that isn't in contact, of a partition that opens booted.
-    pub fn off(own: PartId, partner: PartId, window: u64) -> PartnerEnd
+    pub fn off(own: PartId, partner: PartId, version: u64, window: u64) -> PartnerEnd
         requires { 2 * window < 2 ^ 64 }
-        ensures { result ≡ new_partner own partner 1 (cold_engage Off) window }
+        ensures { result ≡ new_partner own partner version 1 (cold_engage Off) window }
     {
-        PartnerEnd::cold(own, partner, 1, window, AreaState::Off, true)
+        PartnerEnd::cold(own, partner, version, 1, window, AreaState::Off, true)
     }
 
-    /// A partner that is in contact at the opening.
-    pub fn warm(own: PartId, partner: PartId, window: u64) -> PartnerEnd
+    /// A partner that is in contact at the opening; `theirs` is the word of its version.
+    pub fn warm(own: PartId, partner: PartId, version: u64, theirs: u64, window: u64) -> PartnerEnd
         requires { 2 * window < 2 ^ 64 }
-        ensures { result ≡ warm_partner own partner window }
+        ensures { result ≡ warm_partner own partner version theirs window }
     {
-        let cold = PartnerEnd::cold(own, partner, 1, window, AreaState::Ready, true);
+        let cold = PartnerEnd::cold(own, partner, version, 1, window, AreaState::Ready, true);
         let word = FIRST_SESSION.word();
         PartnerEnd {
             masked: true,
+            both_new: are_new(version, theirs),
             state: Standing::Active,
             area: OwnArea {
                 count: 1,
@@ -176,6 +191,13 @@ impl PartnerEnd {
             ..cold
         }
     }
+}
+
+// Whether both versions know entries of several lines.
+fn are_new(own: u64, theirs: u64) -> bool
+    ensures { result ≡ are_new own theirs }
+{
+    own >= LINES_VERSION && theirs >= LINES_VERSION
 }
 
 // What comes next, by errand: each step is one that the rules permit.
@@ -845,8 +867,9 @@ impl PartnerEnd {
         }
     }
 
-    /// A look at the partner's page was whole. It is a reason where the partner's session was
-    /// stored, and the page is of another boot or of a version that isn't known.
+    /// A look at the partner's page was whole. The version that a good one showed counts from now on.
+    /// It is a reason where the partner's session was stored, and the page is of another boot or of
+    /// a version that isn't known.
     pub fn looked(&mut self, answer: LookAnswer)
         ensures { self.new ≡ looked_at answer self.old }
     {
@@ -855,6 +878,9 @@ impl PartnerEnd {
             LookAnswer::Absent => Look::Absent,
             LookAnswer::BadVersion { word } => Look::BadVersion { word },
         };
+        if let Look::Good { version } = self.look {
+            self.both_new = are_new(self.version, version);
+        }
         if let Some(echo) = self.exchange.echo {
             self.look_again(echo, answer);
         }
@@ -900,6 +926,15 @@ impl PartnerEnd {
         if self.exchange.echo.is_some() && contains(word, self.partner) {
             self.fault(Reason::OtherGoingDown { word });
         }
+    }
+
+    /// The own flag word for the partner was taken; `waits` tells whether a flag that was taken
+    /// before still waits to be handled, at any end of their channels. The words that were taken
+    /// since none waited are kept, joined by or.
+    pub fn note_flags(&mut self, word: u64, waits: bool)
+        ensures { self.new ≡ flags_noted word waits self.old }
+    {
+        self.flags_seen = if waits { self.flags_seen | word } else { word };
     }
 
     /// The own engagement word was loaded: memory that the partner has left is free. Gives whether
@@ -990,6 +1025,28 @@ impl PartnerEnd {
     {
         let contact = self.contact?;
         Some((contact.own, contact.theirs))
+    }
+
+    /// Whether the own version and the partner's know entries of several lines: the partner's is
+    /// that of the last good look, or of the opening where it was in contact then. A contact has
+    /// this of the moment in which it is made.
+    pub fn both_new(&self) -> bool
+        ensures { result ≡ self.now.both_new }
+    {
+        self.both_new
+    }
+
+    /// A reason to deactivate the partner that one of their channels' ends gave. An end that refuses
+    /// a flag doesn't know the words in which it came: they are put in here.
+    pub fn end_reason(&self, reason: Option<Reason>) -> Option<Reason>
+        ensures { result ≡ end_reason self.now.flags_seen reason }
+    {
+        match reason {
+            Some(Reason::BadFlags { .. }) => Some(Reason::BadFlags {
+                word: self.flags_seen,
+            }),
+            _ => reason,
+        }
     }
 
     /// Why the partner is to be deactivated: None exactly where no such reason stands.
