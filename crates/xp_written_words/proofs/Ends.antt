@@ -1,4 +1,4 @@
--- What an end knows of the words that are stored for it: its registration, the limit of its queue, the message that is being sent, and how many messages were put, taken and released. A law of one end, whatever changes it.
+-- What an end knows of the words that are stored for it: its registration, the size that it asked for, the limit of its queue, the message that is being sent, and how many messages were put, taken and released. A law of one end, whatever changes it.
 use Rattle.std.proofs.Common.{◌≡◌, ℕ, zero, suc, ◌+◌, ◌-◌, ◌*◌, ◌≤◌, Bool, true, false, not, ◌&&◌, cond, eqb, ltb, List, [], ◌∷◌, ◌++◌, length, length-append, set, refl, ap, sym, ◌∙◌, subst, arith, Option, Some, None}
 use Rattle.std.specs.Prelude.{is_some, IsSome}
 use Rattle.std.proofs.lemmas.Bool.Decides.{nat_tests}
@@ -37,7 +37,7 @@ use Rattle.xp_protocol.specs.declared.rule.LinkRule.TheVariants.{Ring, Pull, Ack
 use Rattle.xp_protocol.specs.Parts.{IsRequestSize}
 use Rattle.xp_protocol.specs.Effects.{Effect, just, and_then, Accepted, Sent, Heard, TakeRefused, Note, BySend, ByPull, Began, Joined, Taken, Freed, Acked, Told, ToldOver, Over, Released, Drained, Registered, Withdrawn}
 use Rattle.xp_protocol.specs.Sending.{Send, is_bad_get, is_full, get_loaded, ring_effect, link_refusal}
-use Rattle.xp_protocol.specs.Pulling.{counters_pulled, is_bad_counter, is_bad_put, shown_empty, entry_pulled, run_copied, run_fault, run_now, words_each as pull_words, found_by, take_refusal}
+use Rattle.xp_protocol.specs.Pulling.{counters_pulled, is_bad_counter, is_bad_put, shown_empty, entry_pulled, run_copied, run_fault, run_now, words_each as pull_words, lesser, found_by, take_refusal}
 use Rattle.xp_protocol.specs.Releasing.{Releasing, fronted, message_released, release_refusal}
 use Rattle.xp_protocol.specs.State.{End, Shake, no_shake, Size, Replied, Contact, idle_end, warm_end, size_of, size_in, state_by, both_complete, link_of, is_begun, is_connected}
 use Rattle.xp_protocol.specs.Linking.{hear, hears, by_send, by_pull, sender_counters, acknowledged, release_notes, link_can, link_effect, copy_failed, down_notes, down_end, close_now, link_down, kept_for, fresh_end, link_finished, link_joined, booted_end, channel_closed, epoch_over, is_ended, are_unequal, unequal, changed, kind_got, is_request, request_handled, reply_handled, is_code, code_handled, refused, kind_refused, well_handled, handled, has_argument, handled_next, settle, settled, with_taken, flags_got, limit_in, end_sent, control_sent, flag_sent, with_argument, argument_read, argument_stored}
@@ -51,6 +51,7 @@ one_of (Some x) = 1
 
 pub record Facts : Type 0 where
   pub registration : Option Size
+  pub asked : Option Size
   pub limit : ℕ
   pub put : ℕ
   pub send : Option Send
@@ -60,6 +61,7 @@ pub record Facts : Type 0 where
 abbrev pub facts : End → Facts
 facts e = record {
   registration = e.registration;
+  asked = e.shake.own_size;
   limit = e.sides.send.limit;
   put = e.sides.send.put;
   send = e.sides.send.send;
@@ -74,13 +76,14 @@ IsSizeTo most z = IsRequestSize z.entries z.limit × (z.limit ≤ most)
 -- after so many commands of the script of this boot: each put was of one of them, and each message that was taken
 pub record Backed (most begun : ℕ) (x : Facts) : Type 0 where
   pub size : (z : Size) → x.registration ≡ Some z → IsSizeTo most z
+  pub asked : limit_in x.asked ≤ most
   pub limit : x.limit ≤ most
   pub message : (y : Send) → x.send ≡ Some y → AreBytes y.payload × (length y.payload ≤ x.limit)
   pub puts : x.put + one_of x.send ≤ begun
   pub gets : x.ack.front + length x.ack.released_from_front + one_of x.take ≤ begun
 
 pub more_begun : (most a b : ℕ) (x : Facts) → a ≤ b → Backed most a x → Backed most b x
-more_begun most a b x l h = record { size = h.size; limit = h.limit; message = h.message; puts = omega (arith, h.puts, l); gets = omega (arith, h.gets, l) }
+more_begun most a b x l h = record { size = h.size; asked = h.asked; limit = h.limit; message = h.message; puts = omega (arith, h.puts, l); gets = omega (arith, h.gets, l) }
 
 -- no note changes these
 hear_facts : (n : Note) (e : End) → facts (hear n e) ≡ facts e
@@ -169,14 +172,14 @@ module _ (most begun : ℕ) (line : LINE_BYTES ≤ most) where
   then_keeps e f g a b h = b (a h)
 
   pub idle_backed : Backed most begun (facts idle_end)
-  idle_backed = record { size = λ z k. absurd (cc); limit = line; message = λ y k. absurd (cc); puts = omega arith; gets = omega arith }
+  idle_backed = record { size = λ z k. absurd (cc); asked = omega arith; limit = line; message = λ y k. absurd (cc); puts = omega arith; gets = omega arith }
 
-  pub warm_backed : (part : ℕ) (l : Link) → IsSizeTo most (size_of l) → Backed most begun (facts (warm_end part l))
-  warm_backed part l z = record { size = λ y k. (let same : size_of l ≡ y = cc in subst (IsSizeTo most) same z); limit = z.1; message = λ y k. absurd (cc); puts = omega arith; gets = omega arith }
+  pub warm_backed : (new : Bool) (l : Link) → IsSizeTo most (size_of l) → Backed most begun (facts (warm_end new l))
+  warm_backed new l z = record { size = λ y k. (let same : size_of l ≡ y = cc in subst (IsSizeTo most) same z); asked = z.1; limit = z.1; message = λ y k. absurd (cc); puts = omega arith; gets = omega arith }
 
   -- the connection goes down, and the epoch is over
   downs : (reason : Reason) (e : End) → Backed most begun (facts e) → Backed most begun (facts (down_end reason e))
-  downs reason e h = record { size = h.size; limit = h.limit; message = λ y k. absurd (cc); puts = omega (arith, h.puts); gets = omega (arith, h.gets) }
+  downs reason e h = record { size = h.size; asked = h.asked; limit = h.limit; message = λ y k. absurd (cc); puts = omega (arith, h.puts); gets = omega (arith, h.gets) }
 
   closes_now : (o : Option Reason) (reason : Reason) (e : End) → Keeps e (close_now o reason e)
   closes_now (Some first) reason e h = h
@@ -185,17 +188,17 @@ module _ (most begun : ℕ) (line : LINE_BYTES ≤ most) where
   closes : (reason : Reason) (e : End) → Keeps e (channel_closed reason e)
   closes reason e h = closes_now e.shake.reason reason e h
 
-  freshes : (shake : Shake) (epoch : ℕ) (e : End) → Backed most begun (facts e) → Backed most begun (facts (fresh_end shake epoch e))
-  freshes shake epoch e h = record { size = λ z k. h.size z (kept_size e.shake.reason e.registration z k); limit = h.limit; message = λ y k. absurd (cc); puts = omega arith; gets = omega arith }
+  freshes : (shake : Shake) (epoch : ℕ) (e : End) → shake.own_size ≡ None → Backed most begun (facts e) → Backed most begun (facts (fresh_end shake epoch e))
+  freshes shake epoch e none h = record { size = λ z k. h.size z (kept_size e.shake.reason e.registration z k); asked = rw none (omega arith); limit = h.limit; message = λ y k. absurd (cc); puts = omega arith; gets = omega arith }
 
   changes : (e : End) → Keeps e (changed e)
-  changes e = either (is_ended e) e (epoch_over e) (unequal e) (λ h. freshes (epoch_over e).local.shake (e.epoch + 1) e h) (either (are_unequal e) e (channel_closed (UnequalSizes e.sides.send.limit e.sides.pull.limit) e) (just e) (closes (UnequalSizes e.sides.send.limit e.sides.pull.limit) e) (λ h. h))
+  changes e = either (is_ended e) e (epoch_over e) (unequal e) (λ h. freshes (epoch_over e).local.shake (e.epoch + 1) e refl h) (either (are_unequal e) e (channel_closed (UnequalSizes (limit_in e.shake.own_size) (limit_in e.shake.their_size)) e) (just e) (closes (UnequalSizes (limit_in e.shake.own_size) (limit_in e.shake.their_size)) e) (λ h. h))
 
   -- a flag is handled
   requests : (o : Option ℕ) (e : End) → Keeps e (request_handled o e)
   requests None e = λ h. h
   requests (Some w) e =
-      let sized : Effect End (List Note) = just (record e { sides = record e.sides { pull = record e.sides.pull { entries = (size_in w).entries; limit = (size_in w).limit; copied = []; run = 0 } } }) in
+      let sized : Effect End (List Note) = just (record e { shake = record e.shake { their_size = Some (size_in w) } }) in
       either (is_request w) e sized (channel_closed (BadArgs w) e) (λ h. calm e sized refl h) (closes (BadArgs w) e)
 
   replies : (o : Option Replied) (e : End) → Keeps e (reply_handled o e)
@@ -217,8 +220,16 @@ module _ (most begun : ℕ) (line : LINE_BYTES ≤ most) where
   well OpenComplete e = calm e (just (kind_got OpenComplete e)) refl
   well CloseReply e = calm e (just (kind_got CloseReply e)) refl
 
+  refused_facts : (k : Kind) (e : End) → facts (kind_refused k e).local ≡ facts e
+  refused_facts OpenRequest e = refl
+  refused_facts OpenReply e = refl
+  refused_facts OpenComplete e = refl
+  refused_facts CloseRequest e = refl
+  refused_facts CloseReply e = refl
+  refused_facts MsgRequest e = refl
+
   handles : (k : Kind) (e : End) → Keeps e (handled k e)
-  handles k e = either (refused k e) e (kind_refused k e) (well_handled k e) (calm e (kind_refused k e) refl) (well k e)
+  handles k e = either (refused k e) e (kind_refused k e) (well_handled k e) (calm e (kind_refused k e) (refused_facts k e)) (well k e)
 
   nexts : (o : Option Kind) (e : End) → Keeps e (handled_next o e)
   nexts None e = λ h. h
@@ -240,10 +251,16 @@ module _ (most begun : ℕ) (line : LINE_BYTES ≤ most) where
   opened None h = omega arith
   opened (Some z) h = (h z refl).1
 
+  lesser_low : (a b : ℕ) → a ≤ most → lesser a b ≤ most
+  lesser_low a b l = by (ltb a b) refl where
+    by : (z : Bool) → ltb a b ≡ z → cond z a b ≤ most
+    by true e = l
+    by false e = grind (arith, nat_tests)
+
   sent : (k : Kind) (e : End) → Backed most begun (facts e) → Backed most begun (facts (end_sent k e))
-  sent OpenRequest e h = record { size = h.size; limit = opened e.registration h.size; message = λ y k. absurd (cc); puts = omega arith; gets = h.gets }
+  sent OpenRequest e h = record { size = h.size; asked = opened e.registration h.size; limit = h.limit; message = h.message; puts = h.puts; gets = h.gets }
   sent OpenReply e h = h
-  sent OpenComplete e h = h
+  sent OpenComplete e h = record { size = h.size; asked = h.asked; limit = lesser_low (limit_in e.shake.own_size) (limit_in e.shake.their_size) h.asked; message = λ y k. absurd (cc); puts = omega arith; gets = omega (arith, h.gets) }
   sent CloseRequest e h = h
   sent CloseReply e h = h
   sent MsgRequest e h = h
@@ -263,7 +280,7 @@ module _ (most begun : ℕ) (line : LINE_BYTES ≤ most) where
   gets_get : (e : End) (w : ℕ) → Keeps e (by_send e (ring_effect e.sides.send ReadGet w))
   gets_get e w h = bad (is_bad_get e.sides.send w) where
     over : Backed most begun (record (facts e) { send = None })
-    over = record { size = h.size; limit = h.limit; message = λ y k. absurd (cc); puts = omega (arith, h.puts); gets = h.gets }
+    over = record { size = h.size; asked = h.asked; limit = h.limit; message = λ y k. absurd (cc); puts = omega (arith, h.puts); gets = h.gets }
 
     full : (b : Bool) → Backed most begun (facts (by_send e (cond b (record { local = record e.sides.send { remote_get = w; send = None; written_words = 0 }; reason = None; notes = Sent (NoSlot e.sides.send.put w) ∷ [] }) (record { local = record e.sides.send { remote_get = w }; reason = None; notes = [] }))).local)
     full true = over
@@ -277,7 +294,7 @@ module _ (most begun : ℕ) (line : LINE_BYTES ≤ most) where
   accepts e w some h = by e.sides.send.send some h.puts where
     by : (o : Option Send) → IsSome o → e.sides.send.put + one_of o ≤ begun → Backed most begun (record (facts e) { put = e.sides.send.put + 1; send = None })
     by None s l = absurd (cc)
-    by (Some y) s l = record { size = h.size; limit = h.limit; message = λ z k. absurd (cc); puts = omega (arith, l); gets = h.gets }
+    by (Some y) s l = record { size = h.size; asked = h.asked; limit = h.limit; message = λ z k. absurd (cc); puts = omega (arith, l); gets = h.gets }
 
   counts : (e : End) (o : Option ℕ) (w : ℕ) → Keeps e (by_pull e (counters_pulled (sender_counters e.sides) o e.sides.pull w))
   counts e None w h = by (is_bad_counter (sender_counters e.sides) w) where
@@ -343,20 +360,20 @@ module _ (most begun : ℕ) (line : LINE_BYTES ≤ most) where
   goes_down reason e h = either (is_begun e) e (close_now e.shake.reason reason e) (just e) (closes_now e.shake.reason reason e) (λ k. k) h
 
   pub finishes : (e : End) → Keeps e (link_finished e)
-  finishes e h = freshes no_shake 0 e h
+  finishes e h = freshes no_shake 0 e refl h
 
-  pub joins : (m : Contact) (e : End) → Keeps e (link_joined m e)
-  joins m e h = record { size = h.size; limit = line; message = λ y k. absurd (cc); puts = omega arith; gets = omega arith }
+  pub joins : (new : Bool) (m : Contact) (e : End) → Keeps e (link_joined new m e)
+  joins new m e h = record { size = h.size; asked = omega arith; limit = line; message = λ y k. absurd (cc); puts = omega arith; gets = omega arith }
 
   -- an answer that is given, and a notice
   takes_found : (e : End) (b : Bool) (t : Option Bool) (empty : Option ℕ) (cache : List (List ℕ)) → e.sides.pull.take ≡ t → Keeps e (taken_by (cond b (found_by t (record e.sides.pull { empty = empty; cache = cache })) None) e)
   takes_found e false t empty cache k h = h
   takes_found e true None empty cache k h = h
-  takes_found e true (Some wait) (Some put) cache k h = record { size = h.size; limit = h.limit; message = h.message; puts = h.puts; gets = omega (arith, h.gets) }
+  takes_found e true (Some wait) (Some put) cache k h = record { size = h.size; asked = h.asked; limit = h.limit; message = h.message; puts = h.puts; gets = omega (arith, h.gets) }
   takes_found e true (Some wait) None [] k h = h
   takes_found e true (Some wait) None (body ∷ more) k h =
       let old : e.sides.ack.front + length e.sides.ack.released_from_front + 1 ≤ begun = subst (λ (o : Option Bool). e.sides.ack.front + length e.sides.ack.released_from_front + one_of o ≤ begun) k h.gets in
-      record { size = h.size; limit = h.limit; message = h.message; puts = h.puts; gets = omega (arith, old, length-append e.sides.ack.released_from_front (false ∷ [])) }
+      record { size = h.size; asked = h.asked; limit = h.limit; message = h.message; puts = h.puts; gets = omega (arith, old, length-append e.sides.ack.released_from_front (false ∷ [])) }
 
   take_keeps : (o : Option TakeRefusal) (e : End) → Keeps e (take_answered o e)
   take_keeps None e h = takes_found e (is_connected e) e.sides.pull.take e.sides.pull.empty e.sides.pull.cache refl h
@@ -397,6 +414,7 @@ module _ (most begun : ℕ) (line : LINE_BYTES ≤ most) where
   sends_begun : (o : Option SendAnswer) (payload : List ℕ) (wait notify : Bool) (e : End) → AreBytes payload → refused_send e payload ≡ o → Begins e (send_begun o payload wait notify e)
   sends_begun None payload wait notify e bytes r h = record {
     size = h.size;
+    asked = h.asked;
     limit = h.limit;
     message = λ y k. (let same : record { payload = payload; wait = wait; notify = notify } ≡ y = cc in subst (λ (z : Send). AreBytes z.payload × (length z.payload ≤ e.sides.send.limit)) same (bytes, sends_short e payload r));
     puts = omega (arith, h.puts);
@@ -405,14 +423,14 @@ module _ (most begun : ℕ) (line : LINE_BYTES ≤ most) where
   sends_begun (Some a) payload wait notify e bytes r h = says (BySend (Sent a) ∷ []) e (more (facts e) h)
 
   takes_begun : (o : Option TakeRefusal) (wait : Bool) (e : End) → Begins e (take_begun o wait e)
-  takes_begun None wait e h = record { size = h.size; limit = h.limit; message = h.message; puts = omega (arith, h.puts); gets = omega (arith, h.gets) }
+  takes_begun None wait e h = record { size = h.size; asked = h.asked; limit = h.limit; message = h.message; puts = omega (arith, h.puts); gets = omega (arith, h.gets) }
   takes_begun (Some a) wait e h = says (ByPull (TakeRefused a) ∷ []) e (more (facts e) h)
 
   releases_begun : (o : Option ReleaseAnswer) (number : ℕ) (e : End) → Begins e (release_begun o number e)
   releases_begun None number e h =
       let new = message_released number e.sides.ack in
       let stays = eqb e.sides.ack.front new.front in
-      says (release_held stays number new) (record e { sides = record e.sides { ack = new; releasing = not stays } }) (record { size = h.size; limit = h.limit; message = h.message; puts = omega (arith, h.puts); gets = omega (arith, h.gets, released_total number e.sides.ack) })
+      says (release_held stays number new) (record e { sides = record e.sides { ack = new; releasing = not stays } }) (record { size = h.size; asked = h.asked; limit = h.limit; message = h.message; puts = omega (arith, h.puts); gets = omega (arith, h.gets, released_total number e.sides.ack) })
   releases_begun (Some a) number e h = says (Released a ∷ []) e (more (facts e) h)
 
   drains_begun : (o : Option DrainAnswer) (e : End) → Begins e (drain_begun o e)
@@ -420,7 +438,7 @@ module _ (most begun : ℕ) (line : LINE_BYTES ≤ most) where
   drains_begun (Some a) e h = says (Drained a ∷ []) e (more (facts e) h)
 
   registers_begun : (o : Option Size) (z : Size) (e : End) → IsSizeTo most z → Begins e (register_begun o z e)
-  registers_begun None z e size h = says (Registered RegisterOk ∷ []) (record e { registration = Some z }) (record { size = λ y k. (let same : z ≡ y = cc in subst (IsSizeTo most) same size); limit = h.limit; message = h.message; puts = omega (arith, h.puts); gets = omega (arith, h.gets) })
+  registers_begun None z e size h = says (Registered RegisterOk ∷ []) (record e { registration = Some z }) (record { size = λ y k. (let same : z ≡ y = cc in subst (IsSizeTo most) same size); asked = h.asked; limit = h.limit; message = h.message; puts = omega (arith, h.puts); gets = omega (arith, h.gets) })
   registers_begun (Some first) z e size h = says (Registered Already ∷ []) e (more (facts e) h)
 
 -- the end of a command that is begun, and of a boot that begins
@@ -429,7 +447,7 @@ module _ (most begun : ℕ) (line : LINE_BYTES ≤ most) where
   unregisters None e h = says most begun line (Withdrawn NotRegistered ∷ []) e (more most begun line (facts e) h)
   unregisters (Some z) e h =
       let f = say (Withdrawn UnregisterOk ∷ []) (record e { registration = None }) in
-      let k = says most begun line (Withdrawn UnregisterOk ∷ []) (record e { registration = None }) (record { size = λ y k. absurd (cc); limit = h.limit; message = h.message; puts = omega (arith, h.puts); gets = omega (arith, h.gets) }) in
+      let k = says most begun line (Withdrawn UnregisterOk ∷ []) (record e { registration = None }) (record { size = λ y k. absurd (cc); asked = h.asked; limit = h.limit; message = h.message; puts = omega (arith, h.puts); gets = omega (arith, h.gets) }) in
       either most (begun + 1) line (f.local.shake.sent.open_request && not (is_some f.local.shake.reason)) f.local (channel_closed Unregistered f.local) (just f.local) (closes most (begun + 1) line Unregistered f.local) (λ x. x) k
 
   pub begins : (e : End) (x : Command) → IsBackedCommand most x → Begins most begun line e (end_begun e x)
@@ -451,4 +469,4 @@ module _ (most begun : ℕ) (line : LINE_BYTES ≤ most) where
   begins e commands.Online b h = more most begun line (facts e) h
 
   pub boots : (n : ℕ) (e : End) → Backed most n (facts e) → Backed most begun (facts (booted_end e))
-  boots n e h = record { size = λ z k. absurd (cc); limit = h.limit; message = λ y k. absurd (cc); puts = omega arith; gets = omega arith }
+  boots n e h = record { size = λ z k. absurd (cc); asked = omega arith; limit = h.limit; message = λ y k. absurd (cc); puts = omega arith; gets = omega arith }

@@ -24,15 +24,15 @@ use Rattle.xp_script.specs.Opening.{version_word, page_words, partner_mask, boot
 use Rattle.xp_script.specs.Parts.{part_of, links_of, link_in}
 use Rattle.xp_script.specs.Settings.{minor_of, joins}
 use Rattle.xp_script.specs.Sizes.{longest_limit}
-use Rattle.xp_protocol.specs.State.{Peer, End, Old, cold_peer, idle_end, size_of, warm_end, warm_peer, base_peer, first_peers, opened_peers, opened_state, opening_life, opening_stamp, peer_at}
+use Rattle.xp_protocol.specs.State.{Peer, End, Old, cold_peer, idle_end, size_of, warm_end, first_met, each, warm_peer, base_peer, first_peers, opened_new, opened_peers, opened_state, opening_life, opening_stamp, peer_at}
 use Rattle.xp_protocol.proofs.LawfulParts.{AreLawfulLines}
 use Rattle.xp_protocol.proofs.Opened.{start_all}
-use Rattle.xp_protocol.proofs.Slots.{at_peer, at_slot}
+use Rattle.xp_protocol.proofs.Slots.{at_each, at_peer, at_slot}
 use Rattle.xp_meetings.proofs.Links.{found, line}
 use Rattle.xp_meetings.proofs.Opening.{write_words, open_words, opened_words, opening_words, opening_stamped}
 use Rattle.xp_meetings.proofs.Words.{Words, same, same_told, self, write}
 use Rattle.xp_written_words.proofs.Fits.{Fits, IsBehind, part_at, IsOthers, others_or, others_zero, own_place, request_allowed, request_small, zero_fits}
-use Rattle.xp_written_words.proofs.Ends.{Backed, facts, IsSizeTo, warm_backed}
+use Rattle.xp_written_words.proofs.Ends.{Backed, facts, IsSizeTo, idle_backed, warm_backed}
 use Rattle.xp_written_words.proofs.Peers.{IsBacked, IsShut, cold_backed}
 use Rattle.xp_written_words.proofs.Parts.{Knows, booting}
 use Rattle.xp_written_words.proofs.Rules.{mask_fits, engaged_fits, activation_fits, deactivation_fits}
@@ -301,20 +301,23 @@ module _ (s : Scenario) (law : IsLawful s) (p : ℕ) (lp : p < s.count) where
     by (inl l) = subst P (sym (get_or-replicate k q (base_peer ls) (cold_peer Old) l)) h
     by (inr l) = subst P (sym (get_or_past (replicate k (base_peer ls)) q (cold_peer Old) (omega (arith, length-replicate {A = Peer} k (base_peer ls), l)))) c
 
-  warm_one : (l : Link) (x : Peer) → Lawful l → IsBacked most 0 x → IsBacked most 0 (warm_peer p l x)
-  warm_one l x k h = record {
+  -- an end that is in contact without a connection has the facts of before
+  warm_one : (new : Bool) (l : Link) (x : Peer) → Lawful l → IsBacked most 0 x → IsBacked most 0 (warm_peer new l x)
+  warm_one new l x k h = record {
     read = λ v e. (let z : 4294967297 ≡ v = cc in omega (arith, z));
     count = omega arith;
-    ends = λ c. at_slot (λ (e : End). Backed most 0 (facts e)) x.links l.channel c (warm_end p l) idle_end (λ e. warm_backed most 0 line_fits p l k.size) (h.ends c);
+    ends = λ c.
+        at_slot (λ (e : End). Backed most 0 (facts e)) (each (λ d e. first_met new e) 0 x.links) l.channel c (warm_end new l) idle_end (λ e. warm_backed most 0 line_fits new l k.size)
+        (at_each (λ (e : End). Backed most 0 (facts e)) (λ d e. first_met new e) x.links c idle_end (h.ends c) (λ past. idle_backed most 0 line_fits));
   }
 
-  warm_all : (ls : List Link) → AreLawful ls → (peers : List Peer) → ((q : ℕ) → IsBacked most 0 (peer_at peers q)) → (q : ℕ) → IsBacked most 0 (peer_at (opened_peers p ls peers) q)
-  warm_all [] h peers old q = old q
-  warm_all (l ∷ ls) h peers old q = warm_all ls (λ i m e. h (suc i) m e) _ (λ j. at_peer (λ (x : Peer). IsBacked most 0 x) peers l.partner (warm_peer p l (peer_at peers l.partner)) j (λ e. warm_one l (peer_at peers l.partner) (h 0 l refl) (old l.partner)) (old j)) q
+  warm_all : (new : ℕ → Bool) (ls : List Link) → AreLawful ls → (peers : List Peer) → ((q : ℕ) → IsBacked most 0 (peer_at peers q)) → (q : ℕ) → IsBacked most 0 (peer_at (opened_peers new ls peers) q)
+  warm_all new [] h peers old q = old q
+  warm_all new (l ∷ ls) h peers old q = warm_all new ls (λ i m e. h (suc i) m e) _ (λ j. at_peer (λ (x : Peer). IsBacked most 0 x) peers l.partner (warm_peer (new l.partner) l (peer_at peers l.partner)) j (λ e. warm_one (new l.partner) l (peer_at peers l.partner) (h 0 l refl) (old l.partner)) (old j)) q
 
-  warm_shut : (ls : List Link) → AreLawful ls → (peers : List Peer) → IsShut (peer_at peers p) → IsShut (peer_at (opened_peers p ls peers) p)
-  warm_shut [] h peers old = old
-  warm_shut (l ∷ ls) h peers old = warm_shut ls (λ i m e. h (suc i) m e) _ (at_peer IsShut peers l.partner (warm_peer p l (peer_at peers l.partner)) p (λ e. absurd ((h 0 l refl).other (sym e))) old)
+  warm_shut : (new : ℕ → Bool) (ls : List Link) → AreLawful ls → (peers : List Peer) → IsShut (peer_at peers p) → IsShut (peer_at (opened_peers new ls peers) p)
+  warm_shut new [] h peers old = old
+  warm_shut new (l ∷ ls) h peers old = warm_shut new ls (λ i m e. h (suc i) m e) _ (at_peer IsShut peers l.partner (warm_peer (new l.partner) l (peer_at peers l.partner)) p (λ e. absurd ((h 0 l refl).other (sym e))) old)
 
   stamp_low : (ls : List Link) → opening_stamp ls ≤ 1
   stamp_low [] = omega arith
@@ -329,8 +332,8 @@ module _ (s : Scenario) (law : IsLawful s) (p : ℕ) (lp : p < s.count) where
       let ls = links_of s p in
       record {
         all = start_all (part_of s p);
-        peers = λ q. warm_all ls lawful_at (first_peers s.count ls) (λ j. first_at (λ (x : Peer). IsBacked most 0 x) s.count ls j (base_backed ls) (cold_backed most 0 line_fits Old)) q;
-        own = warm_shut ls lawful_at (first_peers s.count ls) (first_at IsShut s.count ls p (base_shut ls) (refl, refl));
+        peers = λ q. warm_all (opened_new (part_of s p)) ls lawful_at (first_peers s.count ls) (λ j. first_at (λ (x : Peer). IsBacked most 0 x) s.count ls j (base_backed ls) (cold_backed most 0 line_fits Old)) q;
+        own = warm_shut (opened_new (part_of s p)) ls lawful_at (first_peers s.count ls) (first_at IsShut s.count ls p (base_shut ls) (refl, refl));
         begun = omega arith;
         stamp = stamp_low ls;
         read = λ v e. absurd (cc);

@@ -14,7 +14,7 @@ use Rattle.xp_protocol.specs.declared.rule.PeerRule.TheVariants.{AskActivation, 
 use Rattle.xp_protocol.specs.Effects.{Effect, Note}
 use Rattle.xp_protocol.specs.State.{End, Peer, Engage, Reading, Area, cold_peer, idle_end, link_at}
 use Rattle.xp_protocol.specs.Linking.{link_down, link_finished, link_joined, flags_got, booted_end}
-use Rattle.xp_protocol.specs.Peering.{Here, all_links, same_peer, is_bad_flags, area_left_for, left_engage, contact_made, contact_of, try_contact, record_read, peer_can, peer_effect, is_prepared, area_off, freed_engage, peer_read, deactivation_heard, is_left, is_flagged, is_magic, is_wrong, is_open, has_shown, with_reason, peer_failed, booted_peer}
+use Rattle.xp_protocol.specs.Peering.{Here, all_links, same_peer, is_bad_flags, with_flags, area_left_for, left_engage, contact_made, contact_of, try_contact, record_read, peer_can, peer_effect, is_prepared, area_off, freed_engage, peer_read, deactivation_heard, is_left, is_flagged, is_magic, is_wrong, is_open, has_shown, with_reason, peer_failed, booted_peer}
 use Rattle.xp_protocol.specs.Rules.{peer_numbered}
 use Rattle.xp_protocol.proofs.Frames.{idle_at}
 use Rattle.xp_protocol.proofs.Slots.{at_each, at_slot}
@@ -74,7 +74,7 @@ module _ (most begun : ℕ) (line : LINE_BYTES ≤ most) where
 
   meets : (stamp : ℕ) (z : Peer) → On z → On (try_contact stamp z).local
   meets stamp z h = either (z.engage.second && (z.engage.shown && not (is_some z.contact))) (contact_made stamp z) (same_peer z)
-      (each_links (λ c e. link_joined (contact_of stamp z.engage) e) (record z { contact = Some (contact_of stamp z.engage); engage = record z.engage { state = Active } }) (λ c e. joins most begun line (contact_of stamp z.engage) e) h) h
+      (each_links (λ c e. link_joined z.both_new (contact_of stamp z.engage) e) (record z { contact = Some (contact_of stamp z.engage); engage = record z.engage { state = Active } }) (λ c e. joins most begun line z.both_new (contact_of stamp z.engage) e) h) h
 
   reads : (y : Here) (p : Peer) (w : ℕ) → w < 2 ^ 64 → On p → (o : Option Reading) → On (record_read y p o w).local
   reads y p w small h None = either (eqb w 0) _ _ h (either (is_magic w) _ _ h h)
@@ -89,7 +89,7 @@ module _ (most begun : ℕ) (line : LINE_BYTES ≤ most) where
 
   pub peered : (y : Here) (p : Peer) (m : PeerRule) (w : ℕ) → (m ≡ OpenArea → is_prepared p.engage ≡ true) → w < 2 ^ 64 → On p → On (peer_effect y p m w).local
   peered y p AskActivation w can small h = h
-  peered y p TakeFlags w can small h = either (is_bad_flags w) _ _ h (each_links (λ c e. flags_got (kinds_in w c) e) p (λ c e. takes most begun line (kinds_in w c) e) h)
+  peered y p TakeFlags w can small h = either (is_bad_flags w) _ _ h (each_links (λ c e. flags_got (kinds_in w c) e) (with_flags w p) (λ c e. takes most begun line (kinds_in w c) e) h)
   peered y p CloseArea w can small h = left p.engage.reason p h
   peered y p ZeroMagic w can small h = h
   peered y p ClearOldBit w can small h = h
