@@ -98,7 +98,7 @@ first_remote su q c =
     let now = opened_state su in
     by (restart_comes su 0 now && not (is_over now)) (stop_comes su 0 now && not (is_over now)) where
       opened : (end_of (opened_state su) q c).sides.send.remote_get ≡ 0
-      opened = opened_fact su q c (λ e. e.sides.send.remote_get ≡ 0) refl (λ l. refl)
+      opened = opened_fact su q c (λ e. e.sides.send.remote_get ≡ 0) refl (λ new. refl) (λ new l. refl)
 
       by : (b stops : Bool) → (end_of (moment_by su b stops (opened_state su)) q c).sides.send.remote_get ≡ 0
       by true stops = restarted_remote su (opened_state su) q c

@@ -1,4 +1,4 @@
--- The order of each end after every history, and so that the sides of each are as new before its open requests.
+-- The order of each end after every history, and so that the sides of each are as new before its open complete.
 use Rattle.std.proofs.Common.{ℕ, ◌+◌, ◌<◌, List, [], ◌∷◌, sym, subst, Option, Some, None}
 use Rattle.xp_base.specs.Memory.{Memory}
 use Rattle.xp_base.specs.History.{Act, Marked, Turn, Event, turns_of}
@@ -46,7 +46,7 @@ pub ordered_at : (s : Scenario) → IsLawful s → (h : List Event) (m : Memory)
 ordered_at s law h m r p l = ordered_turns (part_of s p) (lawful_part s p law l) (start (part_of s p)) (turns_of p h) (r.runs p l) (ordered_start (part_of s p) (lawful_part s p law l))
 
 anew_at : (e : End) → FlowAt e → IsAnew e
-anew_at e w = record { sending = w.unsent; receiving = w.ungot }
+anew_at e w = record { sending = w.fresh_send; receiving = w.fresh_pull; requested = λ t. (w.sent_request (w.sent_reply t), w.agreed (w.sent_reply t)) }
 
 pub sides_new : (s : Scenario) → IsLawful s → (h : List Event) (m : Memory) → ReachedWords s h m → SidesAnew s h
 sides_new s law h m r p q c l acts may = anew_at (end_of (known_acted s h p acts) q c) ((ordered_acts (part_of s p) (lawful_part s p law l.first) (state_at s h p) acts may (ordered_at s law h m r p l.first)).flows q c l.second l.channel)

@@ -20,7 +20,7 @@ use Rattle.xp_protocol.specs.declared.rule.Rule.{Rule}
 use Rattle.xp_protocol.specs.Sending.{Send as Sendable}
 use Rattle.xp_base.specs.declared.answer.SendAnswer.{SendAnswer}
 use Rattle.xp_protocol.specs.Parts.{script_in, IsLawfulPart}
-use Rattle.xp_protocol.specs.State.{State, End, Peer, Old, cold_peer, idle_end, opened_state, warm_end, end_of, peer_of, link_at}
+use Rattle.xp_protocol.specs.State.{State, End, Peer, Old, cold_peer, idle_end, opened_state, first_met, warm_end, end_of, peer_of, link_at}
 use Rattle.xp_protocol.specs.Linking.{booted_end}
 use Rattle.xp_protocol.specs.Peering.{booted_peer}
 use Rattle.xp_protocol.specs.Acts.{aimed, MayAct, MayActs, after_act, after_acts, upcoming, current, due, due_to}
@@ -290,7 +290,7 @@ module _ (su : ScenarioPart) (law : IsLawfulPart su) where
   opened_kept : Kept su (opened_state su) [] []
   opened_kept = record {
     order = ordered_first su;
-    sends = record { busy = λ q c lq lc b. absurd (opened_fact su q c (λ e. IsBusy e → ⊥) (none_busy idle_end refl refl) (λ l. none_busy (warm_end su.part l) refl refl) b); head = λ d. absurd (cc); each = λ n x e. absurd (cc) };
+    sends = record { busy = λ q c lq lc b. absurd (opened_fact su q c (λ e. IsBusy e → ⊥) (none_busy idle_end refl refl) (λ new. none_busy (first_met new idle_end) refl refl) (λ new l. none_busy (warm_end new l) refl refl) b); head = λ d. absurd (cc); each = λ n x e. absurd (cc) };
     logs = record { same = refl; last = λ d. absurd (cc) };
   }
 

@@ -13,7 +13,7 @@ use Rattle.xp_protocol.specs.Effects.{Effect, just, and_then, Sent, TakeRefused,
 use Rattle.xp_protocol.specs.Sending.{Sending, Send, send_over, closed_send}
 use Rattle.xp_protocol.specs.Pulling.{Pulling, pull_closed, closed_take}
 use Rattle.xp_protocol.specs.State.{End, Replied, Contact, nothing_decided, is_begun, is_connected, any_kind, size_in}
-use Rattle.xp_protocol.specs.Linking.{hear, hears, down_notes, down_end, closed_release, closed_drain, close_now, over_note, over_notes, open_notes, opened_notes, channel_closed, epoch_over, is_ended, unequal, are_unequal, changed, request_handled, reply_handled, code_handled, is_request, is_code, kind_got, kind_refused, refused, well_handled, handled, has_argument, handled_next, settle, settled as all_settled, joined_notes, connection_noted}
+use Rattle.xp_protocol.specs.Linking.{hear, hears, down_notes, down_end, closed_release, closed_drain, close_now, over_note, over_notes, open_notes, opened_notes, channel_closed, epoch_over, is_ended, unequal, are_unequal, changed, request_handled, reply_handled, code_handled, is_request, is_code, kind_got, kind_refused, refused, well_handled, handled, has_argument, handled_next, settle, settled as all_settled, joined_notes, connection_noted, limit_in}
 use Rattle.xp_promises.proofs.Steps.{AreSilent, silent_hears}
 use Rattle.xp_promises.proofs.Shakes.{down_silent}
 use Rattle.xp_promises.proofs.Own.{or_true}
@@ -46,12 +46,9 @@ joint_of (Some r) m s g h = absurd (never (m && (s && g)) h) where
 pub joint_at : (e : End) → is_connected e ≡ true → Joint e.shake.meet e.shake.reason e.shake.sent e.shake.got
 joint_at e h = joint_of e.shake.reason (is_some e.shake.meet) e.shake.sent.open_complete e.shake.got.open_complete h
 
--- a connected end has sent and got the open request
-pub joint_sent : (e : End) → FlowAt e → e.shake.sent.open_complete ≡ true → e.shake.sent.open_request ≡ false → ⊥
-joint_sent e w s f = let t = w.sent_request (w.sent_reply s) in absurd (cc)
-
-pub joint_got : (e : End) → FlowAt e → e.shake.got.open_complete ≡ true → e.shake.got.open_request ≡ false → ⊥
-joint_got e w s f = let t = w.got_request (w.got_reply s) in absurd (cc)
+-- the open complete was sent, or wasn't
+pub complete_not : (b : Bool) → b ≡ true → b ≡ false → ⊥
+complete_not b t f = let z : true ≡ false = sym t ∙ f in absurd (cc)
 
 -- a reason
 pub down_clear : (reason : Reason) (e : End) → (λ (z : End). record z { decided = nothing_decided }) (hears (down_notes reason e) (down_end reason e)) ≡ record (down_end reason e) { decided = nothing_decided }
@@ -68,8 +65,9 @@ down_flow reason e w = record {
   away = λ m b. refl;
   unbegun = λ z. (let t = or_true (any_kind e.shake.sent) in absurd (cc));
   sends = λ t. absurd (cc);
-  unsent = λ t. ap (λ (x : Sending). send_over x) (w.unsent t);
-  ungot = λ t. ap (λ (x : Pulling). (pull_closed reason x).local) (w.ungot t);
+  agreed = w.agreed;
+  fresh_send = λ t. ap (λ (x : Sending). send_over x) (w.fresh_send t);
+  fresh_pull = λ t. ap (λ (x : Pulling). (pull_closed reason x).local) (w.fresh_pull t);
 }
 
 tail_decided : (reason : Reason) (o : Option Bool) (a b : Bool) (z : End) → (hears (map ByPull (closed_take reason o) ++ (closed_release a ++ closed_drain reason b)) z).decided.send ≡ z.decided.send
@@ -205,7 +203,7 @@ module _ (q c : ℕ) where
       let reply : e.shake.sent.close_reply ≡ true = (and_parts e.shake.sent.close_reply e.shake.got.close_reply t).0 in
       let why = replied_reason e w reply in
       record {
-        flow = record { sent_reply = λ z. absurd (cc); sent_request = λ z. absurd (cc); got_reply = λ z. absurd (cc); got_request = λ z. absurd (cc); close_request = λ z. absurd (cc); close_reply = λ z. absurd (cc); away = λ m z. absurd (cc); unbegun = λ z. refl; sends = λ z. absurd (cc); unsent = λ z. refl; ungot = λ z. refl };
+        flow = record { sent_reply = λ z. absurd (cc); sent_request = λ z. absurd (cc); got_reply = λ z. absurd (cc); got_request = λ z. absurd (cc); close_request = λ z. absurd (cc); close_reply = λ z. absurd (cc); away = λ m z. absurd (cc); unbegun = λ z. refl; sends = λ z. absurd (cc); agreed = λ z. absurd (cc); fresh_send = λ z. refl; fresh_pull = λ z. refl };
         registered = λ z a b. absurd (cc);
         tells = over_tells e (epoch_over e) refl refl refl (inl why);
         sends = record { idle = λ z. (refl, refl); going = λ z. absurd (not_some e.shake.reason (w.sends z).3 why) };
@@ -214,7 +212,7 @@ module _ (q c : ℕ) where
       }
 
   pub changes : (e : End) → Keeps e (changed e)
-  changes e = either (is_ended e) e (epoch_over e) (unequal e) (epochs e) (λ f. either (are_unequal e) e (channel_closed (UnequalSizes e.sides.send.limit e.sides.pull.limit) e) (just e) (λ t. closes (UnequalSizes e.sides.send.limit e.sides.pull.limit) e) (λ t. stays e))
+  changes e = either (is_ended e) e (epoch_over e) (unequal e) (epochs e) (λ f. either (are_unequal e) e (channel_closed (UnequalSizes (limit_in e.shake.own_size) (limit_in e.shake.their_size)) e) (just e) (λ t. closes (UnequalSizes (limit_in e.shake.own_size) (limit_in e.shake.their_size)) e) (λ t. stays e))
 
   -- a flag is handled
   three : (a b z : Bool) → (a || (not b || z)) ≡ false → b ≡ true
@@ -224,23 +222,23 @@ module _ (q c : ℕ) where
 
   got : (k : Kind) (e : End) → (k ≡ MsgRequest → ⊥) → refused k e ≡ false → Keeps e (just (kind_got k e))
   got MsgRequest e m n w = absurd (m refl)
-  got CloseRequest e m n w = calm q c e (just (kind_got CloseRequest e)) (record { sent_reply = w.sent_reply; sent_request = w.sent_request; got_reply = w.got_reply; got_request = w.got_request; close_request = w.close_request; close_reply = w.close_reply; away = w.away; unbegun = w.unbegun; sends = w.sends; unsent = w.unsent; ungot = w.ungot }) (λ z. z) refl (refl, refl, refl)
-  got CloseReply e m n w = calm q c e (just (kind_got CloseReply e)) (record { sent_reply = w.sent_reply; sent_request = w.sent_request; got_reply = w.got_reply; got_request = w.got_request; close_request = w.close_request; close_reply = w.close_reply; away = w.away; unbegun = w.unbegun; sends = w.sends; unsent = w.unsent; ungot = w.ungot }) (λ z. z) refl (refl, refl, refl)
-  got OpenRequest e m n w = calm q c e (just (kind_got OpenRequest e)) (record { sent_reply = w.sent_reply; sent_request = w.sent_request; got_reply = w.got_reply; got_request = λ t. refl; close_request = w.close_request; close_reply = w.close_reply; away = w.away; unbegun = w.unbegun; sends = w.sends; unsent = w.unsent; ungot = λ t. absurd (cc) }) (λ z. z) refl (refl, refl, refl)
+  got CloseRequest e m n w = calm q c e (just (kind_got CloseRequest e)) (record { sent_reply = w.sent_reply; sent_request = w.sent_request; got_reply = w.got_reply; got_request = w.got_request; close_request = w.close_request; close_reply = w.close_reply; away = w.away; unbegun = w.unbegun; sends = w.sends; agreed = w.agreed; fresh_send = w.fresh_send; fresh_pull = w.fresh_pull }) (λ z. z) refl (refl, refl, refl)
+  got CloseReply e m n w = calm q c e (just (kind_got CloseReply e)) (record { sent_reply = w.sent_reply; sent_request = w.sent_request; got_reply = w.got_reply; got_request = w.got_request; close_request = w.close_request; close_reply = w.close_reply; away = w.away; unbegun = w.unbegun; sends = w.sends; agreed = w.agreed; fresh_send = w.fresh_send; fresh_pull = w.fresh_pull }) (λ z. z) refl (refl, refl, refl)
+  got OpenRequest e m n w = calm q c e (just (kind_got OpenRequest e)) (record { sent_reply = w.sent_reply; sent_request = w.sent_request; got_reply = w.got_reply; got_request = λ t. refl; close_request = w.close_request; close_reply = w.close_reply; away = w.away; unbegun = w.unbegun; sends = w.sends; agreed = λ t. refl; fresh_send = w.fresh_send; fresh_pull = w.fresh_pull }) (λ z. z) refl (refl, refl, refl)
   got OpenReply e m n w =
       let asked : e.shake.got.open_request ≡ true = three e.shake.got.open_reply e.shake.got.open_request e.shake.got.close_request n in
-      calm q c e (just (kind_got OpenReply e)) (record { sent_reply = w.sent_reply; sent_request = w.sent_request; got_reply = λ t. refl; got_request = λ t. asked; close_request = w.close_request; close_reply = w.close_reply; away = w.away; unbegun = w.unbegun; sends = w.sends; unsent = w.unsent; ungot = w.ungot }) (λ z. z) refl (refl, refl, refl)
+      calm q c e (just (kind_got OpenReply e)) (record { sent_reply = w.sent_reply; sent_request = w.sent_request; got_reply = λ t. refl; got_request = λ t. asked; close_request = w.close_request; close_reply = w.close_reply; away = w.away; unbegun = w.unbegun; sends = w.sends; agreed = w.agreed; fresh_send = w.fresh_send; fresh_pull = w.fresh_pull }) (λ z. z) refl (refl, refl, refl)
   got OpenComplete e m n w =
       let replied : e.shake.got.open_reply ≡ true = three e.shake.got.open_complete e.shake.got.open_reply e.shake.got.close_request n in
-      calm q c e (just (kind_got OpenComplete e)) (record { sent_reply = w.sent_reply; sent_request = w.sent_request; got_reply = λ t. replied; got_request = w.got_request; close_request = w.close_request; close_reply = w.close_reply; away = w.away; unbegun = w.unbegun; sends = λ t. (let j = w.sends t in (j.0, j.1, refl, j.3)); unsent = w.unsent; ungot = w.ungot }) (λ z. z) refl (refl, refl, refl)
+      calm q c e (just (kind_got OpenComplete e)) (record { sent_reply = w.sent_reply; sent_request = w.sent_request; got_reply = λ t. replied; got_request = w.got_request; close_request = w.close_request; close_reply = w.close_reply; away = w.away; unbegun = w.unbegun; sends = λ t. (let j = w.sends t in (j.0, j.1, refl, j.3)); agreed = w.agreed; fresh_send = w.fresh_send; fresh_pull = w.fresh_pull }) (λ z. z) refl (refl, refl, refl)
 
-  -- with the open request that is handled the receiving side gets its size
-  sized : (e : End) (w : ℕ) → e.shake.got.open_request ≡ true → Keeps e (just (record e { sides = record e.sides { pull = record e.sides.pull { entries = (size_in w).entries; limit = (size_in w).limit; copied = []; run = 0 } } }))
-  sized e v t w = calm q c e (just (record e { sides = record e.sides { pull = record e.sides.pull { entries = (size_in v).entries; limit = (size_in v).limit; copied = []; run = 0 } } })) (record { sent_reply = w.sent_reply; sent_request = w.sent_request; got_reply = w.got_reply; got_request = w.got_request; close_request = w.close_request; close_reply = w.close_reply; away = w.away; unbegun = w.unbegun; sends = w.sends; unsent = w.unsent; ungot = λ n. absurd (cc) }) (λ z. z) refl (refl, refl, refl)
+  -- with the open request that is handled the partner's size is known
+  sized : (e : End) (v : ℕ) → Keeps e (just (record e { shake = record e.shake { their_size = Some (size_in v) } }))
+  sized e v w = calm q c e (just (record e { shake = record e.shake { their_size = Some (size_in v) } })) w (λ z. z) refl (refl, refl, refl)
 
-  requests : (o : Option ℕ) (e : End) → e.shake.got.open_request ≡ true → Keeps e (request_handled o e)
-  requests None e t = stays e
-  requests (Some v) e t = either (is_request v) e (just (record e { sides = record e.sides { pull = record e.sides.pull { entries = (size_in v).entries; limit = (size_in v).limit; copied = []; run = 0 } } })) (channel_closed (BadArgs v) e) (λ y. sized e v t) (λ y. closes (BadArgs v) e)
+  requests : (o : Option ℕ) (e : End) → Keeps e (request_handled o e)
+  requests None e = stays e
+  requests (Some v) e = either (is_request v) e (just (record e { shake = record e.shake { their_size = Some (size_in v) } })) (channel_closed (BadArgs v) e) (λ y. sized e v) (λ y. closes (BadArgs v) e)
 
   replies : (o : Option Replied) (e : End) → Keeps e (reply_handled o e)
   replies None e = stays e
@@ -254,14 +252,14 @@ module _ (q c : ℕ) where
   messages e =
       let z : End = record e { shake = record e.shake { taken = without MsgRequest e.shake.taken } } in
       let f : Effect End (List Note) = just (record z { sides = record z.sides { pull = record z.sides.pull { owed = true } } }) in
-      either (is_connected z) e f (just z) (λ t w. calm q c e f (record { sent_reply = w.sent_reply; sent_request = w.sent_request; got_reply = w.got_reply; got_request = w.got_request; close_request = w.close_request; close_reply = w.close_reply; away = w.away; unbegun = w.unbegun; sends = w.sends; unsent = w.unsent; ungot = λ n. absurd (joint_got e w (joint_at e t).2 n) }) (λ y. y) refl (refl, refl, refl)) (λ t w. calm q c e (just z) w (λ y. y) refl (refl, refl, refl))
+      either (is_connected z) e f (just z) (λ t w. calm q c e f (record { sent_reply = w.sent_reply; sent_request = w.sent_request; got_reply = w.got_reply; got_request = w.got_request; close_request = w.close_request; close_reply = w.close_reply; away = w.away; unbegun = w.unbegun; sends = w.sends; agreed = w.agreed; fresh_send = w.fresh_send; fresh_pull = λ n. absurd (complete_not e.shake.sent.open_complete (joint_at e t).1 n) }) (λ y. y) refl (refl, refl, refl)) (λ t w. calm q c e (just z) w (λ y. y) refl (refl, refl, refl))
 
   after_got : (k : Kind) (e : End) (f : Effect End (List Note)) → (k ≡ MsgRequest → ⊥) → refused k e ≡ false → Keeps (kind_got k e) f → Keeps e f
   after_got k e f m n h = then_keeps e (just (kind_got k e)) (λ x. f) (got k e m n) h
 
   well : (k : Kind) (e : End) → refused k e ≡ false → Keeps e (well_handled k e)
   well MsgRequest e n = messages e
-  well OpenRequest e n = after_got OpenRequest e (request_handled e.shake.request (kind_got OpenRequest e)) (λ z. absurd (cc)) n (requests e.shake.request (kind_got OpenRequest e) refl)
+  well OpenRequest e n = after_got OpenRequest e (request_handled e.shake.request (kind_got OpenRequest e)) (λ z. absurd (cc)) n (requests e.shake.request (kind_got OpenRequest e))
   well OpenReply e n = after_got OpenReply e (reply_handled e.shake.reply (kind_got OpenReply e)) (λ z. absurd (cc)) n (replies e.shake.reply (kind_got OpenReply e))
   well CloseRequest e n = after_got CloseRequest e (code_handled e.shake.code (kind_got CloseRequest e)) (λ z. absurd (cc)) n (codes e.shake.code (kind_got CloseRequest e))
   well OpenComplete e n = got OpenComplete e (λ z. absurd (cc)) n

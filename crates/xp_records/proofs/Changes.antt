@@ -39,7 +39,7 @@ use Rattle.xp_protocol.specs.Sending.{Sending, Send as Sendable, new_sending, is
 use Rattle.xp_protocol.specs.Pulling.{Pulling, new_pulling, counters_pulled, entry_pulled, words_each, run_now, run_fault, run_copied, is_bad_put, take_due, shown_empty, take_refusal, pull_failed}
 use Rattle.xp_protocol.specs.Releasing.{Releasing, message_released, release_refusal}
 use Rattle.xp_protocol.specs.State.{End, Size, Contact, is_begun, is_connected, may_copy, link_of, state_by, both_complete, largest_size}
-use Rattle.xp_protocol.specs.Linking.{hears, by_send, by_pull, sender_counters, release_notes, acknowledged, close_now, link_down, link_finished, link_joined, booted_end, channel_closed, changed, settled as all_settled, with_taken, flags_got, end_sent, with_sent, control_sent, owed, flag_sent, with_argument, argument_stored, link_can, link_effect, copy_failed, entries_in, limit_in}
+use Rattle.xp_protocol.specs.Linking.{hears, by_send, by_pull, sender_counters, release_notes, acknowledged, close_now, link_down, link_finished, link_joined, booted_end, channel_closed, changed, settled as all_settled, with_taken, flags_got, end_sent, with_sent, control_sent, owed, flag_sent, with_argument, argument_stored, link_can, link_effect, copy_failed, entries_in, limit_in, agreed_by, agreed, parted, copies_over}
 use Rattle.xp_protocol.specs.Rules.{link_answered, end_failed, copy_error}
 use Rattle.xp_protocol.specs.Acts.{say, send_begun, take_begun, release_begun, release_held, drain_begun, drain_refusal, register_begun, unregister_begun, refused_send, first_of, too_long, limit_of, end_begun, end_answered, taken_by, take_found, take_answered}
 use Rattle.xp_protocol.specs.Promised.{size_sent}
@@ -47,7 +47,7 @@ use Rattle.xp_promises.proofs.Own.{sent_begun}
 use Rattle.xp_promises.proofs.Steps.{AreSilent}
 use Rattle.xp_records.proofs.Commands.{Off, still_off, begun_still, answered_still, down_off, sends_still}
 use Rattle.xp_records.proofs.Flow.{Joint, begun_by, Flow, FlowAt, RegisteredAt, told_in, over_in, acks_in, AreExplained, plain_explained, Sends, sends_then, Tells, tells_then, calm_tells, Kept, face, ArePlain, calm, calm_sends}
-use Rattle.xp_records.proofs.Cascades.{down_clear, joint_at, joint_sent, joint_got, opened_plain, Keeps, then_keeps, either, stays, closes, closes_now, over_tells, changes, settles_all}
+use Rattle.xp_records.proofs.Cascades.{down_clear, joint_at, complete_not, opened_plain, Keeps, then_keeps, either, stays, closes, closes_now, over_tells, changes, settles_all}
 
 -- no get is stored, or one that is above the one before
 pub record Acks (e : End) (ns : List Note) : Type 0 where
@@ -114,11 +114,11 @@ connects None false true true false h = absurd (cc)
 pub joint_linked : (e : End) → link_of e ≡ Connected → Joint e.shake.meet e.shake.reason e.shake.sent e.shake.got
 joint_linked e h = connects e.shake.reason e.shake.sent.open_request (is_some e.shake.meet) e.shake.sent.open_complete e.shake.got.open_complete h
 
-copies_got : (e : End) → may_copy e ≡ true → (e.shake.sent.open_complete ≡ true) × (e.shake.got.open_complete ≡ true)
-copies_got e h =
+copies_sent : (e : End) → may_copy e ≡ true → e.shake.sent.open_complete ≡ true
+copies_sent e h =
     let a = and_parts (both_complete e.shake) (not e.shake.sent.close_reply) h in
     let b = and_parts (is_some e.shake.meet) (e.shake.sent.open_complete && e.shake.got.open_complete) a.0 in
-    and_parts e.shake.sent.open_complete e.shake.got.open_complete b.1
+    (and_parts e.shake.sent.open_complete e.shake.got.open_complete b.1).0
 
 complete_begun : (o : Option Reason) (s : Kinds) → s.open_complete ≡ true → begun_by o s ≡ false → ⊥
 complete_begun o s t f = let z : begun_by o s ≡ true = rw t refl in absurd (cc)
@@ -145,29 +145,40 @@ module _ (q c : ℕ) where
   is_size None t = absurd (cc)
   is_size (Some z) t = refl
 
-  unsent_now : (e : End) → owed OpenRequest e ≡ true → e.shake.sent.open_request ≡ false
-  unsent_now e o = off e.shake.sent.open_request (and_parts (not (is_some e.shake.reason)) (not e.shake.sent.open_request) (and_parts (is_some e.registration) (not (is_some e.shake.reason) && not e.shake.sent.open_request) o).1).1 where
-    off : (b : Bool) → not b ≡ true → b ≡ false
-    off true h = absurd (cc)
-    off false h = refl
+  not_false : (b : Bool) → not b ≡ true → b ≡ false
+  not_false true h = absurd (cc)
+  not_false false h = refl
+
+  -- an open reply is owed after both open requests, and an open complete once
+  both_asked : (e : End) → owed OpenReply e ≡ true → (e.shake.sent.open_request ≡ true) × (e.shake.got.open_request ≡ true)
+  both_asked e o = agreed_both e.shake.sent.open_request e.shake.got.open_request (agreed_by e.shake.both_new (limit_in e.shake.own_size) (limit_in e.shake.their_size)) (and_parts (is_some (agreed e.shake)) (not e.shake.sent.open_reply) (and_parts (not (is_some e.shake.reason)) (is_some (agreed e.shake) && not e.shake.sent.open_reply) o).1).0 where
+    agreed_both : (a b : Bool) (o : Option ℕ) → is_some (cond (a && b) o None) ≡ true → (a ≡ true) × (b ≡ true)
+    agreed_both true true o h = (refl, refl)
+    agreed_both true false o h = absurd (cc)
+    agreed_both false b o h = absurd (cc)
+
+  incomplete : (e : End) → owed OpenComplete e ≡ true → e.shake.sent.open_complete ≡ false
+  incomplete e o =
+      let a = and_parts (not (is_some e.shake.reason)) _ o in
+      let b = and_parts e.shake.sent.open_reply _ a.1 in
+      not_false e.shake.sent.open_complete (and_parts e.shake.got.open_reply (not e.shake.sent.open_complete) b.1).1
 
   sent_flow : (k : Kind) → (k ≡ MsgRequest → ⊥) → (e : End) → is_some e.shake.meet ≡ true → owed k e ≡ true → FlowAt e → FlowAt (end_sent k e)
   sent_flow MsgRequest n e on o w = absurd (n refl)
-  sent_flow OpenRequest n e on o w = record { sent_reply = w.sent_reply; sent_request = λ t. refl; got_reply = w.got_reply; got_request = w.got_request; close_request = w.close_request; close_reply = w.close_reply; away = λ m b. absurd (none_none e.shake.meet on m); unbegun = λ z. (let b = sent_begun q c OpenRequest n e in absurd (cc)); sends = λ t. absurd (cc); unsent = λ t. refl; ungot = w.ungot }
+  sent_flow OpenRequest n e on o w = record { sent_reply = w.sent_reply; sent_request = λ t. refl; got_reply = w.got_reply; got_request = w.got_request; close_request = w.close_request; close_reply = w.close_reply; away = λ m b. absurd (none_none e.shake.meet on m); unbegun = λ z. (let b = sent_begun q c OpenRequest n e in absurd (cc)); sends = w.sends; agreed = w.agreed; fresh_send = w.fresh_send; fresh_pull = w.fresh_pull }
   sent_flow OpenReply n e on o w =
-      let a = and_parts (not (is_some e.shake.reason)) _ o in
-      let b = and_parts e.shake.sent.open_request _ a.1 in
-      record { sent_reply = λ t. refl; sent_request = λ t. b.0; got_reply = w.got_reply; got_request = w.got_request; close_request = w.close_request; close_reply = w.close_reply; away = λ m x. absurd (none_none e.shake.meet on m); unbegun = λ z. (let y = sent_begun q c OpenReply n e in absurd (cc)); sends = w.sends; unsent = w.unsent; ungot = w.ungot }
+      let b = both_asked e o in
+      record { sent_reply = λ t. refl; sent_request = λ t. b.0; got_reply = w.got_reply; got_request = w.got_request; close_request = w.close_request; close_reply = w.close_reply; away = λ m x. absurd (none_none e.shake.meet on m); unbegun = λ z. (let y = sent_begun q c OpenReply n e in absurd (cc)); sends = w.sends; agreed = λ t. b.1; fresh_send = w.fresh_send; fresh_pull = w.fresh_pull }
   sent_flow OpenComplete n e on o w =
       let a = and_parts (not (is_some e.shake.reason)) _ o in
       let b = and_parts e.shake.sent.open_reply _ a.1 in
-      record { sent_reply = λ t. b.0; sent_request = w.sent_request; got_reply = w.got_reply; got_request = w.got_request; close_request = w.close_request; close_reply = w.close_reply; away = λ m x. absurd (none_none e.shake.meet on m); unbegun = λ z. (let y = sent_begun q c OpenComplete n e in absurd (cc)); sends = λ t. (let j = w.sends t in (j.0, refl, j.2, j.3)); unsent = w.unsent; ungot = w.ungot }
+      record { sent_reply = λ t. b.0; sent_request = w.sent_request; got_reply = w.got_reply; got_request = w.got_request; close_request = w.close_request; close_reply = w.close_reply; away = λ m x. absurd (none_none e.shake.meet on m); unbegun = λ z. (let y = sent_begun q c OpenComplete n e in absurd (cc)); sends = λ t. absurd (cc); agreed = w.agreed; fresh_send = λ t. absurd (cc); fresh_pull = λ t. absurd (cc) }
   sent_flow CloseRequest n e on o w =
       let a = and_parts (is_some e.shake.reason) _ o in
-      record { sent_reply = w.sent_reply; sent_request = w.sent_request; got_reply = w.got_reply; got_request = w.got_request; close_request = λ t. a.0; close_reply = λ t. refl; away = λ m x. absurd (none_none e.shake.meet on m); unbegun = λ z. (let y = sent_begun q c CloseRequest n e in absurd (cc)); sends = w.sends; unsent = w.unsent; ungot = w.ungot }
+      record { sent_reply = w.sent_reply; sent_request = w.sent_request; got_reply = w.got_reply; got_request = w.got_request; close_request = λ t. a.0; close_reply = λ t. refl; away = λ m x. absurd (none_none e.shake.meet on m); unbegun = λ z. (let y = sent_begun q c CloseRequest n e in absurd (cc)); sends = w.sends; agreed = w.agreed; fresh_send = w.fresh_send; fresh_pull = w.fresh_pull }
   sent_flow CloseReply n e on o w =
       let a = and_parts e.shake.sent.close_request _ o in
-      record { sent_reply = w.sent_reply; sent_request = w.sent_request; got_reply = w.got_reply; got_request = w.got_request; close_request = w.close_request; close_reply = λ t. a.0; away = λ m x. absurd (none_none e.shake.meet on m); unbegun = λ z. (let y = sent_begun q c CloseReply n e in absurd (cc)); sends = w.sends; unsent = w.unsent; ungot = w.ungot }
+      record { sent_reply = w.sent_reply; sent_request = w.sent_request; got_reply = w.got_reply; got_request = w.got_request; close_request = w.close_request; close_reply = λ t. a.0; away = λ m x. absurd (none_none e.shake.meet on m); unbegun = λ z. (let y = sent_begun q c CloseReply n e in absurd (cc)); sends = w.sends; agreed = w.agreed; fresh_send = w.fresh_send; fresh_pull = w.fresh_pull }
 
   sent_registered : (k : Kind) (e : End) → owed k e ≡ true → RegisteredAt e → RegisteredAt (end_sent k e)
   sent_registered MsgRequest e o h = h
@@ -195,9 +206,9 @@ module _ (q c : ℕ) where
 
   sent_sends : (k : Kind) (e : End) → owed k e ≡ true → FlowAt e → Sends e (end_sent k e)
   sent_sends MsgRequest e o w = record { idle = λ z. (z, refl); going = λ t. inl (record { send = refl; put = refl; entries = refl; decided = refl }) }
-  sent_sends OpenRequest e o w = record { idle = λ z. (refl, refl); going = λ t. absurd (joint_sent e w (w.sends t).1 (unsent_now e o)) }
+  sent_sends OpenRequest e o w = record { idle = λ z. (z, refl); going = λ t. inl (record { send = refl; put = refl; entries = refl; decided = refl }) }
   sent_sends OpenReply e o w = record { idle = λ z. (z, refl); going = λ t. inl (record { send = refl; put = refl; entries = refl; decided = refl }) }
-  sent_sends OpenComplete e o w = record { idle = λ z. (z, refl); going = λ t. inl (record { send = refl; put = refl; entries = refl; decided = refl }) }
+  sent_sends OpenComplete e o w = record { idle = λ z. (refl, refl); going = λ t. absurd (complete_not e.shake.sent.open_complete (w.sends t).1 (incomplete e o)) }
   sent_sends CloseRequest e o w = record { idle = λ z. (z, refl); going = λ t. inl (record { send = refl; put = refl; entries = refl; decided = refl }) }
   sent_sends CloseReply e o w = record { idle = λ z. (z, refl); going = λ t. inl (record { send = refl; put = refl; entries = refl; decided = refl }) }
 
@@ -233,7 +244,7 @@ module _ (q c : ℕ) where
 
   -- the steps of the sending side: the order stands, and the receiving side is as before
   sending_flow : (e : End) (x : Sending) → e.shake.sent.open_complete ≡ true → (is_some x.send ≡ true → is_some e.sides.send.send ≡ true) → FlowAt e → FlowAt (record e { sides = record e.sides { send = x } })
-  sending_flow e x oc some w = record { sent_reply = w.sent_reply; sent_request = w.sent_request; got_reply = w.got_reply; got_request = w.got_request; close_request = w.close_request; close_reply = w.close_reply; away = w.away; unbegun = w.unbegun; sends = λ t. w.sends (some t); unsent = λ n. absurd (joint_sent e w oc n); ungot = w.ungot }
+  sending_flow e x oc some w = record { sent_reply = w.sent_reply; sent_request = w.sent_request; got_reply = w.got_reply; got_request = w.got_request; close_request = w.close_request; close_reply = w.close_reply; away = w.away; unbegun = w.unbegun; sends = λ t. w.sends (some t); agreed = w.agreed; fresh_send = λ n. absurd (complete_not e.shake.sent.open_complete oc n); fresh_pull = w.fresh_pull }
 
   reads_get : (e : End) (v : ℕ) → is_some e.shake.meet ≡ true → e.shake.sent.open_complete ≡ true → FlowAt e → Order q c e (by_send e (ring_effect e.sides.send ReadGet v))
   reads_get e v on oc w = by (is_bad_get e.sides.send v) (is_full e.sides.send v) where
@@ -257,7 +268,7 @@ module _ (q c : ℕ) where
     to asks = by_send e (record { local = record (send_over e.sides.send) { put = e.sides.send.put + 1 }; reason = None; notes = Accepted e.sides.send.put (payload_of e.sides.send.send) asks ∷ Sent (SendOk e.sides.send.put) ∷ [] })
 
     flow : (asks : Bool) → FlowAt (to asks).local
-    flow asks = record { sent_reply = w.sent_reply; sent_request = w.sent_request; got_reply = w.got_reply; got_request = w.got_request; close_request = w.close_request; close_reply = w.close_reply; away = w.away; unbegun = λ z. absurd (complete_begun e.shake.reason e.shake.sent oc z); sends = λ t. absurd (cc); unsent = λ n. absurd (joint_sent e w oc n); ungot = w.ungot }
+    flow asks = record { sent_reply = w.sent_reply; sent_request = w.sent_request; got_reply = w.got_reply; got_request = w.got_request; close_request = w.close_request; close_reply = w.close_reply; away = w.away; unbegun = λ z. absurd (complete_begun e.shake.reason e.shake.sent oc z); sends = λ t. absurd (cc); agreed = w.agreed; fresh_send = λ n. absurd (complete_not e.shake.sent.open_complete oc n); fresh_pull = w.fresh_pull }
 
     by : (asks : Bool) → Order q c e (to asks)
     by asks = plain_order q c e (to asks) (flow asks) (λ z. z) refl (refl, refl, refl) (in_contact e (to asks).local (to asks).notes on)
@@ -266,13 +277,13 @@ module _ (q c : ℕ) where
   writes e f v oc w = let g = by_send e (ring_effect e.sides.send (WriteEntryWord f) v) in went_of e g (calm q c e g (sending_flow e g.local.sides.send oc (λ t. t) w) (λ z. z) refl (refl, refl, refl))
 
   -- those of the receiving side
-  pulling_flow : (e : End) (x : Pulling) → e.shake.got.open_complete ≡ true → FlowAt e → FlowAt (record e { sides = record e.sides { pull = x } })
-  pulling_flow e x oc w = record { sent_reply = w.sent_reply; sent_request = w.sent_request; got_reply = w.got_reply; got_request = w.got_request; close_request = w.close_request; close_reply = w.close_reply; away = w.away; unbegun = w.unbegun; sends = w.sends; unsent = w.unsent; ungot = λ n. absurd (joint_got e w oc n) }
+  pulling_flow : (e : End) (x : Pulling) → e.shake.sent.open_complete ≡ true → FlowAt e → FlowAt (record e { sides = record e.sides { pull = x } })
+  pulling_flow e x oc w = record { sent_reply = w.sent_reply; sent_request = w.sent_request; got_reply = w.got_reply; got_request = w.got_request; close_request = w.close_request; close_reply = w.close_reply; away = w.away; unbegun = w.unbegun; sends = w.sends; agreed = w.agreed; fresh_send = w.fresh_send; fresh_pull = λ n. absurd (complete_not e.shake.sent.open_complete oc n) }
 
-  pulls : (e : End) (x : Effect Pulling (List PullNote)) → x.notes ≡ [] → e.shake.got.open_complete ≡ true → FlowAt e → Went e (by_pull e x)
+  pulls : (e : End) (x : Effect Pulling (List PullNote)) → x.notes ≡ [] → e.shake.sent.open_complete ≡ true → FlowAt e → Went e (by_pull e x)
   pulls e x none oc w = subst (λ (ns : List PullNote). Went e (by_pull e (record { local = x.local; reason = x.reason; notes = ns }))) (sym none) (let g = by_pull e (record { local = x.local; reason = x.reason; notes = [] }) in went_of e g (calm q c e g (pulling_flow e x.local oc w) (λ z. z) refl (refl, refl, refl)))
 
-  reads_counters : (e : End) (o : Option ℕ) (v : ℕ) → (e.shake.sent.open_complete ≡ true) × (e.shake.got.open_complete ≡ true) → FlowAt e → Went e (by_pull e (counters_pulled (sender_counters e.sides) o e.sides.pull v))
+  reads_counters : (e : End) (o : Option ℕ) (v : ℕ) → e.shake.sent.open_complete ≡ true → FlowAt e → Went e (by_pull e (counters_pulled (sender_counters e.sides) o e.sides.pull v))
   reads_counters e None v oc w = by (is_bad_get e.sides.send v) where
     bad : Effect Pulling (List PullNote)
     bad = record { local = record e.sides.pull { owed = false }; reason = Some (BadCounters v e.sides.send.put); notes = [] }
@@ -281,8 +292,8 @@ module _ (q c : ℕ) where
     good = record { local = record e.sides.pull { counters = Some v; known = v; owed = false }; reason = None; notes = Heard v ∷ [] }
 
     by : (z : Bool) → Went e (by_pull e (cond z bad good))
-    by true = pulls e bad refl oc.1 w
-    by false = let g = by_pull e good in went_of e g (calm q c e g (sending_flow (record e { sides = record e.sides { pull = good.local } }) (with_remote_get v e.sides.send) oc.0 (λ t. t) (pulling_flow e good.local oc.1 w)) (λ z. z) refl (refl, refl, refl))
+    by true = pulls e bad refl oc w
+    by false = let g = by_pull e good in went_of e g (calm q c e g (sending_flow (record e { sides = record e.sides { pull = good.local } }) (with_remote_get v e.sides.send) oc (λ t. t) (pulling_flow e good.local oc w)) (λ z. z) refl (refl, refl, refl))
   reads_counters e (Some get) v oc w = by (is_bad_put (sender_counters e.sides) e.sides.pull v) where
     bad : Effect Pulling (List PullNote)
     bad = record { local = record e.sides.pull { counters = None }; reason = Some (BadCounters get v); notes = [] }
@@ -291,10 +302,10 @@ module _ (q c : ℕ) where
     good = record { local = record e.sides.pull { counters = None; pulled_put = v; empty = shown_empty e.sides.pull v }; reason = None; notes = [] }
 
     by : (z : Bool) → Went e (by_pull e (cond z bad good))
-    by true = pulls e bad refl oc.1 w
-    by false = pulls e good refl oc.1 w
+    by true = pulls e bad refl oc w
+    by false = pulls e good refl oc w
 
-  reads_entry : (e : End) (ws : List ℕ) → e.shake.got.open_complete ≡ true → FlowAt e → Went e (by_pull e (entry_pulled ws e.sides.pull))
+  reads_entry : (e : End) (ws : List ℕ) → e.shake.sent.open_complete ≡ true → FlowAt e → Went e (by_pull e (entry_pulled ws e.sides.pull))
   reads_entry e ws oc w = by (eqb (length ws) (words_each e.sides.pull * b)) (run_fault e.sides.pull.limit e.sides.pull.pulled b ws) where
     b : ℕ
     b = run_now e.sides.pull
@@ -333,8 +344,8 @@ module _ (q c : ℕ) where
   link_went place e (Ring ReadGet) v is can w = absurd is
   link_went place e (Ring (WriteEntryWord f)) v is can w = writes e f v (joint_linked e can.0).1 w
   link_went place e (Ring AcceptMessage) v is can w = absurd is
-  link_went place e (Pull ReadCounters) v is can w = reads_counters e e.sides.pull.counters v (copies_got e can.0) w
-  link_went place e (Pull ReadEntry) v is can w = reads_entry e (e.sides.pull.copied ++ v ∷ []) (copies_got e can.0).1 w
+  link_went place e (Pull ReadCounters) v is can w = reads_counters e e.sides.pull.counters v (copies_sent e can.0) w
+  link_went place e (Pull ReadEntry) v is can w = reads_entry e (e.sides.pull.copied ++ v ∷ []) (copies_sent e can.0) w
   link_went place e Acknowledge v is can w = absurd is
   link_went place e (SetFlag k) v is can w = sends_flag k e can.0 can.1 w
   link_went place e ZeroGet v is can w = let f = link_effect place e ZeroGet v in went_of e f (calm q c e f w (λ z. z) refl (refl, refl, refl))
@@ -374,7 +385,7 @@ module _ (q c : ℕ) where
   failed_pull kind x e = e
 
   failed_flow : (kind : CopyKind) (e : End) → FlowAt e → FlowAt (copy_failed kind e)
-  failed_flow kind e w = record { sent_reply = w.sent_reply; sent_request = w.sent_request; got_reply = w.got_reply; got_request = w.got_request; close_request = w.close_request; close_reply = w.close_reply; away = w.away; unbegun = w.unbegun; sends = w.sends; unsent = w.unsent; ungot = λ n. failed_pull kind e.sides.pull (w.ungot n) }
+  failed_flow kind e w = record { sent_reply = w.sent_reply; sent_request = w.sent_request; got_reply = w.got_reply; got_request = w.got_request; close_request = w.close_request; close_reply = w.close_reply; away = w.away; unbegun = w.unbegun; sends = w.sends; agreed = w.agreed; fresh_send = w.fresh_send; fresh_pull = λ n. failed_pull kind e.sides.pull (w.fresh_pull n) }
 
   fails : (o : Option CopyMark) (e : End) (reason : Option Reason) → FlowAt e → Went e (record { local = end_failed o e; reason = reason; notes = [] })
   fails None e reason w = went_of e _ (calm q c e (record { local = e; reason = reason; notes = [] }) w (λ z. z) refl (refl, refl, refl))
@@ -403,7 +414,7 @@ module _ (q c : ℕ) where
 
   -- the partner goes down
   abbrev down_last : End → Effect End (List Note)
-  down_last x = just (record x { shake = record x.shake { owes_message = false; meet = None } })
+  down_last x = just (parted x)
 
   closed_send : (e : End) → FlowAt e → is_some e.shake.reason ≡ true → e.sides.send.send ≡ None
   closed_send e w t = by e.sides.send.send refl where
@@ -433,7 +444,7 @@ module _ (q c : ℕ) where
       let x = f.local in
       let w = k.flow in
       record {
-        flow = record { sent_reply = w.sent_reply; sent_request = w.sent_request; got_reply = w.got_reply; got_request = w.got_request; close_request = w.close_request; close_reply = w.close_reply; away = λ m b. why b; unbegun = w.unbegun; sends = λ t. (let z : is_some x.sides.send.send ≡ false = ap (λ (o : Option Sendable). is_some o) none in absurd (cc)); unsent = w.unsent; ungot = w.ungot };
+        flow = record { sent_reply = w.sent_reply; sent_request = w.sent_request; got_reply = w.got_reply; got_request = w.got_request; close_request = w.close_request; close_reply = w.close_reply; away = λ m b. why b; unbegun = w.unbegun; sends = λ t. (let z : is_some x.sides.send.send ≡ false = ap (λ (o : Option Sendable). is_some o) none in absurd (cc)); agreed = w.agreed; fresh_send = w.fresh_send; fresh_pull = λ n. ap (λ (y : Pulling). copies_over y) (w.fresh_pull n) };
         registered = k.registered;
         tells = tells_then q c e f down_last k.tells (calm_tells q c x (down_last x) refl refl (refl, refl, refl));
         sends = sends_then e x (down_last x).local k.sends (record { idle = λ z. (z, refl); going = λ t. inl (record { send = refl; put = refl; entries = refl; decided = refl }) }) (λ r a b. (a, b));
@@ -466,7 +477,7 @@ module _ (q c : ℕ) where
     by false t = inr (w.unbegun t)
 
   fresh_flow : (m : Option Contact) (x y : Size) → Flow m None no_kinds no_kinds [] (new_sending x.entries x.limit) (new_pulling y.entries y.limit)
-  fresh_flow m x y = record { sent_reply = λ z. absurd (cc); sent_request = λ z. absurd (cc); got_reply = λ z. absurd (cc); got_request = λ z. absurd (cc); close_request = λ z. absurd (cc); close_reply = λ z. absurd (cc); away = λ n z. absurd (cc); unbegun = λ z. refl; sends = λ z. absurd (cc); unsent = λ z. refl; ungot = λ z. refl }
+  fresh_flow m x y = record { sent_reply = λ z. absurd (cc); sent_request = λ z. absurd (cc); got_reply = λ z. absurd (cc); got_request = λ z. absurd (cc); close_request = λ z. absurd (cc); close_reply = λ z. absurd (cc); away = λ n z. absurd (cc); unbegun = λ z. refl; sends = λ z. absurd (cc); agreed = λ z. absurd (cc); fresh_send = λ z. refl; fresh_pull = λ z. refl }
 
   pub finishes : (e : End) → e.shake.meet ≡ None → FlowAt e → Downs e (link_finished e)
   finishes e m w = record {
@@ -477,19 +488,19 @@ module _ (q c : ℕ) where
   }
 
   -- a contact is made
-  pub joins : (m : Contact) (e : End) → is_begun e ≡ false → FlowAt e → Downs e (link_joined m e)
-  joins m e b w = record {
+  pub joins : (new : Bool) (m : Contact) (e : End) → is_begun e ≡ false → FlowAt e → Downs e (link_joined new m e)
+  joins new m e b w = record {
     flow = fresh_flow (Some m) largest_size largest_size;
     registered = λ z a t. absurd (cc);
-    tells = calm_tells q c e (link_joined m e) (ap (λ (ns : List ℕ). e.ended ++ ns) (w.unbegun b) ∙ append-nil e.ended) (sym (w.unbegun b)) (refl, refl, refl);
+    tells = calm_tells q c e (link_joined new m e) (ap (λ (ns : List ℕ). e.ended ++ ns) (w.unbegun b) ∙ append-nil e.ended) (sym (w.unbegun b)) (refl, refl, refl);
     sends = record { idle = λ z. (refl, refl); going = λ t. (let z = ap (λ (o : Option Sendable). is_some o) (unbegun_send e w b) in absurd (cc)) };
   }
 
   pub finished_order : (e : End) → e.shake.meet ≡ None → FlowAt e → Order q c e (link_finished e)
   finished_order e m w = let k = finishes e m w in order_by q c e (link_finished e) w k.tells k.flow k.registered (λ x b. absurd (cc))
 
-  pub joined_order : (m : Contact) (e : End) → is_begun e ≡ false → FlowAt e → Order q c e (link_joined m e)
-  joined_order m e b w = let k = joins m e b w in order_by q c e (link_joined m e) w k.tells k.flow k.registered (λ x z. absurd (cc))
+  pub joined_order : (new : Bool) (m : Contact) (e : End) → is_begun e ≡ false → FlowAt e → Order q c e (link_joined new m e)
+  joined_order new m e b w = let k = joins new m e b w in order_by q c e (link_joined new m e) w k.tells k.flow k.registered (λ x z. absurd (cc))
 
   -- a boot begins
   pub boots : (e : End) → FlowAt (booted_end e)
@@ -506,7 +517,7 @@ module _ (q c : ℕ) where
     by None Connected i =
         let j = joint_linked e i in
         let f = send_begun None payload wait notify e in
-        plain_order q c e f (record { sent_reply = w.sent_reply; sent_request = w.sent_request; got_reply = w.got_reply; got_request = w.got_request; close_request = w.close_request; close_reply = w.close_reply; away = w.away; unbegun = w.unbegun; sends = λ t. j; unsent = λ n. absurd (joint_sent e w j.1 n); ungot = w.ungot }) (λ z. z) refl (refl, refl, refl) (still_off e f (sends_still None e payload wait notify))
+        plain_order q c e f (record { sent_reply = w.sent_reply; sent_request = w.sent_request; got_reply = w.got_reply; got_request = w.got_request; close_request = w.close_request; close_reply = w.close_reply; away = w.away; unbegun = w.unbegun; sends = λ t. j; agreed = w.agreed; fresh_send = λ n. absurd (complete_not e.shake.sent.open_complete j.1 n); fresh_pull = w.fresh_pull }) (λ z. z) refl (refl, refl, refl) (still_off e f (sends_still None e payload wait notify))
 
   takes_begun : (e : End) (wait : Bool) → FlowAt e → Kept q c e (take_begun (take_refusal (link_of e)) wait e)
   takes_begun e wait w = by (link_of e) refl where
@@ -517,7 +528,7 @@ module _ (q c : ℕ) where
     by (Closing r) i = refused (RefusedFor r)
     by Idle i = refused RefusedUnconnected
     by Opening i = refused RefusedUnconnected
-    by Connected i = calm q c e (take_begun None wait e) (pulling_flow e (take_begun None wait e).local.sides.pull (joint_linked e i).2 w) (λ z. z) refl (refl, refl, refl)
+    by Connected i = calm q c e (take_begun None wait e) (pulling_flow e (take_begun None wait e).local.sides.pull (joint_linked e i).1 w) (λ z. z) refl (refl, refl, refl)
 
   releases_begun : (o : Option ReleaseAnswer) (number : ℕ) (e : End) → Keeps q c e (release_begun o number e)
   releases_begun (Some a) number e w = calm q c e (release_begun (Some a) number e) w (λ z. z) refl (refl, refl, refl)
@@ -615,14 +626,14 @@ module _ (q c : ℕ) where
   -- a command is answered
   takes_answered : (e : End) → Keeps q c e (taken_by (take_found e) e)
   takes_answered e w = by (is_connected e) refl (take_due e.sides.pull) where
-    taken : e.shake.got.open_complete ≡ true → (o : Option TakeAnswer) → Kept q c e (taken_by o e)
+    taken : e.shake.sent.open_complete ≡ true → (o : Option TakeAnswer) → Kept q c e (taken_by o e)
     taken oc (Some (TakenAnswer number body)) = let f = taken_by (Some (TakenAnswer number body)) e in calm q c e f (pulling_flow e f.local.sides.pull oc w) (λ z. z) refl (refl, refl, refl)
     taken oc (Some (Empty put)) = let f = taken_by (Some (Empty put)) e in calm q c e f (pulling_flow e f.local.sides.pull oc w) (λ z. z) refl (refl, refl, refl)
     taken oc (Some a) = stays q c e w
     taken oc None = stays q c e w
 
     by : (z : Bool) → is_connected e ≡ z → (o : Option TakeAnswer) → Kept q c e (taken_by (cond z o None) e)
-    by true t o = taken (joint_at e t).2 o
+    by true t o = taken (joint_at e t).1 o
     by false t o = stays q c e w
 
   take_kept : (o : Option TakeRefusal) (e : End) → Keeps q c e (take_answered o e)

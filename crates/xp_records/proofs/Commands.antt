@@ -19,7 +19,7 @@ use Rattle.xp_protocol.specs.Effects.{Effect, just, and_then, Sent, TakeRefused,
 use Rattle.xp_protocol.specs.Releasing.{message_released, release_refusal}
 use Rattle.xp_protocol.specs.Pulling.{take_refusal}
 use Rattle.xp_protocol.specs.State.{End, Size, is_begun, link_of}
-use Rattle.xp_protocol.specs.Linking.{down_notes, close_now, link_down, opened_notes, channel_closed}
+use Rattle.xp_protocol.specs.Linking.{down_notes, close_now, link_down, parted, opened_notes, channel_closed}
 use Rattle.xp_protocol.specs.Acts.{end_begun, end_answered, end_noticed, send_begun, take_begun, release_begun, release_held, drain_begun, drain_refusal, register_begun, unregister_begun, refused_send, taken_by, take_found, take_answered, say}
 use Rattle.xp_promises.proofs.Steps.{AreSilent}
 use Rattle.xp_promises.proofs.Shakes.{down_silent}
@@ -104,7 +104,7 @@ closed_begins None reason e = silent_begins (down_notes reason e) (down_silent r
 pub down_off : (reason : Reason) (e : End) → Off e (link_down reason e).local (link_down reason e).notes
 down_off reason e = by (is_begun e) refl where
   last : End → Effect End (List Note)
-  last x = just (record x { shake = record x.shake { owes_message = false; meet = None } })
+  last x = just (parted x)
 
   by : (b : Bool) → is_begun e ≡ b → (let f = and_then (cond b (close_now e.shake.reason reason e) (just e)) last in Off e f.local f.notes)
   by true t m z = (t, closed_get e.shake.reason reason e, begins_more (close_now e.shake.reason reason e).notes [] (closed_begins e.shake.reason reason e) refl)

@@ -18,7 +18,7 @@ abbrev line : Line
 line = record { partner = 1; channel = 0; entries = 2; limit = 1 }
 
 abbrev warm : End
-warm = warm_end 0 line
+warm = warm_end false line
 
 abbrev filled : End
 filled = record warm { sides = record warm.sides { send = record warm.sides.send { put = 2 } } }

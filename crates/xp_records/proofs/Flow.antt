@@ -31,8 +31,9 @@ pub record Flow (meet : Option Contact) (reason : Option Reason) (sent got : Kin
   pub away : meet ≡ None → begun_by reason sent ≡ true → is_some reason ≡ true
   pub unbegun : begun_by reason sent ≡ false → pending ≡ []
   pub sends : is_some send.send ≡ true → Joint meet reason sent got
-  pub unsent : sent.open_request ≡ false → send ≡ new_sending send.entries send.limit
-  pub ungot : got.open_request ≡ false → pull ≡ new_pulling pull.entries pull.limit
+  pub agreed : sent.open_reply ≡ true → got.open_request ≡ true
+  pub fresh_send : sent.open_complete ≡ false → send ≡ new_sending send.entries send.limit
+  pub fresh_pull : sent.open_complete ≡ false → pull ≡ new_pulling pull.entries pull.limit
 
 abbrev pub FlowAt : End → Type 0
 FlowAt e = Flow e.shake.meet e.shake.reason e.shake.sent e.shake.got e.sides.pending_notices e.sides.send e.sides.pull

@@ -8,7 +8,7 @@ use Rattle.xp_base.specs.declared.reason.Reason.TheVariants.{OtherGoingDown}
 use Rattle.xp_base.specs.declared.step.Answer.{Answer}
 use Rattle.xp_base.specs.declared.step.Answer.TheVariants.{Word, Failed}
 use Rattle.xp_base.specs.declared.step.CopyMark.{CopyMark}
-use Rattle.xp_base.specs.Kinds.{kinds_in}
+use Rattle.xp_base.specs.Kinds.{no_kinds, kinds_in}
 use Rattle.xp_base.specs.History.{Act, Begun, Answered, Noticed, NoticeKind, Delivered, Ended}
 use Rattle.xp_script.specs.declared.command.Command.{Command}
 use Rattle.xp_protocol.specs.declared.contact.PartnerState.TheVariants.{Active}
@@ -21,9 +21,9 @@ use Rattle.xp_script.specs.declared.part.Link.{Link as SetupLink}
 use Rattle.xp_script.specs.declared.part.ScenarioPart.{ScenarioPart}
 use Rattle.xp_protocol.specs.Parts.{script_in, IsLawfulPart}
 use Rattle.xp_protocol.specs.Effects.{Effect, Note}
-use Rattle.xp_protocol.specs.State.{State, End, Peer, Contact, Engage, Area, Reading, Old, Off, Ready, Leaving, cold_peer, idle_end, warm_end, warm_peer, base_peer, opened_state, opened_peers, first_peers, is_begun, end_of, peer_of, peer_at, link_at, set_link, each}
+use Rattle.xp_protocol.specs.State.{State, End, Peer, Contact, Engage, Area, Reading, Old, Off, Ready, Leaving, cold_peer, idle_end, warm_end, warm_peer, base_peer, opened_state, opened_new, opened_peers, first_peers, first_contact, is_begun, end_of, peer_of, peer_at, link_at, set_link, each}
 use Rattle.xp_protocol.specs.Linking.{link_down, link_finished, link_joined, flags_got, booted_end}
-use Rattle.xp_protocol.specs.Peering.{Here, same_peer, is_bad_flags, is_ready, area_left_for, contact_made, contact_of, try_contact, record_read, peer_can, peer_effect, area_off, peer_read, deactivation_heard, is_left, is_flagged, is_magic, is_wrong, has_shown, with_reason, peer_failed, booted_peer}
+use Rattle.xp_protocol.specs.Peering.{Here, same_peer, is_bad_flags, with_flags, is_ready, area_left_for, contact_made, contact_of, try_contact, record_read, peer_can, peer_effect, area_off, peer_read, deactivation_heard, is_left, is_flagged, is_magic, is_wrong, has_shown, with_reason, peer_failed, booted_peer}
 use Rattle.xp_protocol.specs.Rules.{Can, here_of, peer_numbered, mark_of, place_for, after_answer, noted_rule, link_answered}
 use Rattle.xp_protocol.specs.Acts.{Aim, MayAct, after_act, command_begun, aimed, aim_of, aim_by, EndName, named_end, upcoming, current, end_begun, end_answered, with_aim, noted_aim, end_noticed, without_first}
 use Rattle.xp_protocol.specs.declared.rule.AreaWord.{AreaWord}
@@ -34,7 +34,7 @@ use Rattle.xp_protocol.proofs.Named.{IsNamed, named_low}
 use Rattle.xp_protocol.proofs.Slots.{at_each, at_peer, at_slot}
 use Rattle.xp_protocol.proofs.Frames.{AreAll, links_framed, peers_framed, link_frame, peer_frame, aim_frame, rule_all, act_all, cold_all, wanted_at, idle_at}
 use Rattle.xp_protocol.proofs.Opened.{start_all, opened_fact}
-use Rattle.xp_records.proofs.Flow.{FlowAt, RegisteredAt, Sends, calm_sends}
+use Rattle.xp_records.proofs.Flow.{Flow, FlowAt, RegisteredAt, Sends, calm_sends}
 use Rattle.xp_records.proofs.Changes.{Orders, Order, order_same, linked_order, takes, takes_order, goes_down, down_order, finishes, finished_order, joins, joined_order, boots, begun_order, answered_order}
 use Rattle.xp_records.proofs.Commands.{Still, begun_still, answered_still, noticed_still}
 
@@ -175,8 +175,8 @@ module _ (q c : ℕ) (lc : c < 4) (y : Here) (p : Peer) (n : length p.links ≡ 
       let alone : p.contact ≡ None = sym ec ∙ none_by z.contact (both_true z.engage.second z.engage.shown (is_some z.contact) t) in
       let fresh = far.fresh (ap is_leaving ready) alone c lc in
       let new : Peer = record z { contact = Some (contact_of y.stamp z.engage); engage = record z.engage { state = Active } } in
-      let f : ℕ → End → Effect End (List Note) = λ c e. link_joined (contact_of y.stamp z.engage) e in
-      let j : Q (link_joined (contact_of y.stamp z.engage) (link_at p.links c)).local (link_joined (contact_of y.stamp z.engage) (link_at p.links c)).notes = (joined_order q c (contact_of y.stamp z.engage) (link_at p.links c) fresh w, (joins q c (contact_of y.stamp z.engage) (link_at p.links c) fresh w).sends) in
+      let f : ℕ → End → Effect End (List Note) = λ c e. link_joined z.both_new (contact_of y.stamp z.engage) e in
+      let j : Q (link_joined z.both_new (contact_of y.stamp z.engage) (link_at p.links c)).local (link_joined z.both_new (contact_of y.stamp z.engage) (link_at p.links c)).notes = (joined_order q c z.both_new (contact_of y.stamp z.engage) (link_at p.links c) fresh w, (joins q c z.both_new (contact_of y.stamp z.engage) (link_at p.links c) fresh w).sends) in
       links_framed Q f new c (ap length el ∙ n) lc (subst (λ (ls : List End). Q (f c (link_at ls c)).local (f c (link_at ls c)).notes) (sym el) j))
       (λ t. subst (λ (ls : List End). Q (link_at ls c) []) (sym el) same)
 
@@ -192,7 +192,7 @@ module _ (q c : ℕ) (lc : c < 4) (y : Here) (p : Peer) (n : length p.links ≡ 
   left_in (Some reason) = links_framed Q (λ c e. link_down reason e) p c n lc (down_order q c reason (link_at p.links c) w, (goes_down q c reason (link_at p.links c) w).sends)
 
   peered : (m : PeerRule) (v : ℕ) → peer_can y p m → In (peer_effect y p m v)
-  peered TakeFlags v can = cond_in (is_bad_flags v) _ _ (λ t. same) (λ t. links_framed Q (λ c e. flags_got (kinds_in v c) e) p c n lc (takes_order q c (kinds_in v c) (link_at p.links c) w, (takes q c (kinds_in v c) (link_at p.links c) w).sends))
+  peered TakeFlags v can = cond_in (is_bad_flags v) _ _ (λ t. same) (λ t. links_framed Q (λ c e. flags_got (kinds_in v c) e) (with_flags v p) c n lc (takes_order q c (kinds_in v c) (link_at p.links c) w, (takes q c (kinds_in v c) (link_at p.links c) w).sends))
   peered CloseArea v can = left_in p.engage.reason
   peered ReadRecord v can = read_in p.engage.reading v can.0
   peered StoreSecond v can = joins_in (record p { engage = record p.engage { second = true } }) refl refl can.0
@@ -395,7 +395,7 @@ module _ (su : ScenarioPart) (law : IsLawfulPart su) (st : State) (h : Ordered s
 
   noticed_flow : (how : NoticeKind) (number : ℕ) (e : End) → FlowAt e → FlowAt (end_noticed how number e).local
   noticed_flow Ended number e w = w
-  noticed_flow Delivered number e w = record { sent_reply = w.sent_reply; sent_request = w.sent_request; got_reply = w.got_reply; got_request = w.got_request; close_request = w.close_request; close_reply = w.close_reply; away = w.away; unbegun = λ z. ap without_first (w.unbegun z); sends = w.sends; unsent = w.unsent; ungot = w.ungot }
+  noticed_flow Delivered number e w = record { sent_reply = w.sent_reply; sent_request = w.sent_request; got_reply = w.got_reply; got_request = w.got_request; close_request = w.close_request; close_reply = w.close_reply; away = w.away; unbegun = λ z. ap without_first (w.unbegun z); sends = w.sends; agreed = w.agreed; fresh_send = w.fresh_send; fresh_pull = w.fresh_pull }
 
   noticed_registered : (how : NoticeKind) (number : ℕ) (e : End) → RegisteredAt e → RegisteredAt (end_noticed how number e).local
   noticed_registered Ended number e h = h
@@ -444,9 +444,9 @@ module _ (su : ScenarioPart) (law : IsLawfulPart su) (st : State) (h : Ordered s
       moment_all turns (restart_comes su earlier now && not (is_over now)) (stop_comes su earlier now && not (is_over now))
 
 -- the opening
-opened_away : (part : ℕ) (ls : List SetupLink) (peers : List Peer) → ((q : ℕ) → AwayAt (peer_at peers q)) → (q : ℕ) → AwayAt (peer_at (opened_peers part ls peers) q)
-opened_away part [] peers h = h
-opened_away part (l ∷ ls) peers h = opened_away part ls _ (λ q. at_peer AwayAt peers l.partner (warm_peer part l (peer_at peers l.partner)) q (λ e. record { contact = λ r. absurd (cc); apart = λ m. absurd (cc); fresh = λ z m. absurd (cc) }) (h q))
+opened_away : (new : ℕ → Bool) (ls : List SetupLink) (peers : List Peer) → ((q : ℕ) → AwayAt (peer_at peers q)) → (q : ℕ) → AwayAt (peer_at (opened_peers new ls peers) q)
+opened_away new [] peers h = h
+opened_away new (l ∷ ls) peers h = opened_away new ls _ (λ q. at_peer AwayAt peers l.partner (warm_peer (new l.partner) l (peer_at peers l.partner)) q (λ e. record { contact = λ r. absurd (cc); apart = λ m. absurd (cc); fresh = λ z m. absurd (cc) }) (h q))
 
 base_away : (ls : List SetupLink) → AwayAt (base_peer ls)
 base_away [] = idle_away Old
@@ -459,16 +459,16 @@ first_away n ls q = by (cases_lt q n) where
   by (inl l) = subst AwayAt (sym (get_or-replicate n q (base_peer ls) (cold_peer Old) l)) (base_away ls)
   by (inr l) = subst AwayAt (sym (get_or_past (replicate n (base_peer ls)) q (cold_peer Old) (omega (arith, length-replicate {A = Peer} n (base_peer ls), l)))) (idle_away Old)
 
-warm_flow : (part : ℕ) (l : SetupLink) → FlowAt (warm_end part l)
-warm_flow part l = record { sent_reply = λ t. refl; sent_request = λ t. refl; got_reply = λ t. refl; got_request = λ t. refl; close_request = λ t. absurd (cc); close_reply = λ t. absurd (cc); away = λ m. absurd (cc); unbegun = λ z. refl; sends = λ t. absurd (cc); unsent = λ t. refl; ungot = λ t. refl }
+warm_flow : (new : Bool) (l : SetupLink) → FlowAt (warm_end new l)
+warm_flow new l = record { sent_reply = λ t. refl; sent_request = λ t. refl; got_reply = λ t. refl; got_request = λ t. refl; close_request = λ t. absurd (cc); close_reply = λ t. absurd (cc); away = λ m. absurd (cc); unbegun = λ z. refl; sends = λ t. absurd (cc); agreed = λ t. refl; fresh_send = λ t. refl; fresh_pull = λ t. refl }
 
-idle_flow : FlowAt idle_end
-idle_flow = record { sent_reply = λ t. absurd (cc); sent_request = λ t. absurd (cc); got_reply = λ t. absurd (cc); got_request = λ t. absurd (cc); close_request = λ t. absurd (cc); close_reply = λ t. absurd (cc); away = λ m t. absurd (cc); unbegun = λ z. refl; sends = λ t. absurd (cc); unsent = λ t. refl; ungot = λ t. refl }
+idle_flow : (m : Option Contact) → Flow m None no_kinds no_kinds [] idle_end.sides.send idle_end.sides.pull
+idle_flow m = record { sent_reply = λ t. absurd (cc); sent_request = λ t. absurd (cc); got_reply = λ t. absurd (cc); got_request = λ t. absurd (cc); close_request = λ t. absurd (cc); close_reply = λ t. absurd (cc); away = λ n t. absurd (cc); unbegun = λ z. refl; sends = λ t. absurd (cc); agreed = λ t. absurd (cc); fresh_send = λ t. refl; fresh_pull = λ t. refl }
 
 pub ordered_first : (su : ScenarioPart) → Ordered su.count (opened_state su)
 ordered_first su = record {
   all = start_all su;
-  flows = λ q c lq lc. opened_fact su q c (λ e. FlowAt e) idle_flow (λ l. warm_flow su.part l);
-  registered = λ q c lq lc. opened_fact su q c (λ e. RegisteredAt e) (λ t. absurd (cc)) (λ l t n. refl);
-  away = λ q lq. opened_away su.part su.links (first_peers su.count su.links) (λ k. first_away su.count su.links k) q;
+  flows = λ q c lq lc. opened_fact su q c (λ e. FlowAt e) (idle_flow None) (λ new. idle_flow (Some first_contact)) warm_flow;
+  registered = λ q c lq lc. opened_fact su q c (λ e. RegisteredAt e) (λ t. absurd (cc)) (λ new t. absurd (cc)) (λ new l t n. refl);
+  away = λ q lq. opened_away (opened_new su) su.links (first_peers su.count su.links) (λ k. first_away su.count su.links k) q;
 }

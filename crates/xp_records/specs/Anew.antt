@@ -1,5 +1,6 @@
--- The sides of an end before the open request that gives them their size.
-use Rattle.std.specs.Prelude.{◌≡◌, ℕ, false, List}
+-- The sides of an end before the open complete, with which they are made anew in the limit that is
+-- agreed.
+use Rattle.std.specs.Prelude.{◌≡◌, ℕ, true, false, List}
 use Rattle.xp_base.specs.History.{Act, Event}
 use Rattle.xp_script.specs.declared.scenario.Scenario.{Scenario}
 use Rattle.xp_script.specs.Parts.{part_of}
@@ -10,13 +11,15 @@ use Rattle.xp_protocol.specs.Acts.{MayActs}
 use Rattle.xp_protocol.specs.Reached.{state_at}
 use Rattle.xp_protocol.specs.Promised.{IsLine, known_acted}
 
--- as long as the open request of the epoch wasn't sent, no send is in progress and none was; as
--- long as the partner's wasn't handled, no copy goes on and nothing was copied
+-- as long as the open complete of the epoch wasn't sent, no send is in progress and none was, no copy
+-- goes on and nothing was copied; and it is sent after both open requests
 pub record IsAnew (e : End) : Type 0 where
-  pub sending : e.shake.sent.open_request ≡ false → e.sides.send
+  pub sending : e.shake.sent.open_complete ≡ false → e.sides.send
       ≡ new_sending e.sides.send.entries e.sides.send.limit
-  pub receiving : e.shake.got.open_request ≡ false → e.sides.pull
+  pub receiving : e.shake.sent.open_complete ≡ false → e.sides.pull
       ≡ new_pulling e.sides.pull.entries e.sides.pull.limit
+  pub requested : e.shake.sent.open_complete ≡ true → (e.shake.sent.open_request ≡ true)
+      × (e.shake.got.open_request ≡ true)
 
 -- of each end in contact or not, after each turn and after the first acts of the next one
 abbrev pub SidesAnew : Scenario → List Event → Type 0

@@ -9,9 +9,9 @@ ghost use Rattle.xp_records.specs.Anew.{SidesAnew};
 ghost use Rattle.xp_records.specs.Answers.{SendAnswers};
 ghost use Rattle.xp_records.specs.Noticed.{DeliveredAcknowledged, NoticesRecorded};
 
-/// Whatever history the rules reach in a lawful scenario: until an end sends the open request of an
-/// epoch its sending side is as new, and until it handles the partner's its receiving side is. So no
-/// send is in progress and nothing is copied where an open request gives a side its size.
+/// Whatever history the rules reach in a lawful scenario: until an end sends the open complete of an
+/// epoch both its sides are as new, and it sends it after both open requests. So no send is in
+/// progress and nothing is copied where the open complete makes both sides anew in the agreed limit.
 pub fn sides_anew()
     ensures { (s : Scenario) → IsLawful s →
         (h : List Event) (m : Memory) → ReachedWords s h m → SidesAnew s h }
