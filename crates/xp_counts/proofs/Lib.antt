@@ -1,0 +1,3 @@
+mod Ends
+mod Peers
+mod States
