@@ -1,5 +1,6 @@
-//! Tests of the language: each kind of line wrong in each way, pairs of faults, changed texts, texts that
-//! are printed, the worked scenarios through the top call, the line of a summary.
+//! Tests of the language: each kind of line wrong in each way, pairs of faults, the first of two
+//! causes, changed texts, texts that are printed, the worked scenarios through the top call, the line
+//! of a summary.
 #![tactic(auto)]
 
 #[cfg(test)]
@@ -7,10 +8,14 @@ mod lines;
 #[cfg(test)]
 mod mutated;
 #[cfg(test)]
+mod order;
+#[cfg(test)]
 mod pairs;
 #[cfg(test)]
 mod places;
 #[cfg(test)]
 mod printed;
+#[cfg(test)]
+mod replayed;
 #[cfg(test)]
 mod worked;

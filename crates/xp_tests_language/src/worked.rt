@@ -1,11 +1,10 @@
-// Worked scenarios with their reports, replayed by the top call over a source and a sink in memory.
-use std::alloc::{AllocError, Global};
+// Worked scenarios with their reports, and worked texts that are refused, with their lines, by the
+// top call.
+use crate::replayed::{expect_line, replayed};
+use std::alloc::Global;
 use std::process::Abort;
 use std::test::Fail;
-use xp_tool::plain::plain;
 use xp_tool::status::Status;
-use xp_tool::words::Word;
-use xp_tool::{WholeSink, WholeSource};
 
 /// A scenario, and its report.
 type Row = (&'static [u8], &'static [u8]);
@@ -233,33 +232,54 @@ partition 1 done boots 1
     ),
 ];
 
-fn replay_word(alloc: Global) -> Result<Vec<Word>, AllocError> {
-    let mut words = Vec::new(alloc);
-    words.push(String::from_str(alloc, "replay")?)?;
-    Ok(words)
-}
+/// Worked texts that are refused, each with its line on standard error.
+const REFUSED: [(&[u8], &str); 3] = [
+    // An empty text.
+    (b"", "xpsim: line 1 column 1: header"),
+    (
+        b"xpsim 1
+partitions 2
+frobnicate 3
+",
+        "xpsim: line 3 column 1: word",
+    ),
+    // A queue has 8 lines, and each of two entries needs 8.
+    (
+        b"xpsim 1
+partitions 2
+minor 0 2
+script 0
+register 1 0 entries 2 limit 1008
+",
+        "xpsim: line 5 column 30: number",
+    ),
+];
 
 /// The replay of a scenario leaves a world and writes this report.
 fn expect_report(
     rt: &impl Abort,
     alloc: Global,
-    words: &[Word],
     scenario: &[u8],
     report: &[u8],
 ) -> Result<(), Fail> {
-    let mut source = WholeSource::new(scenario.to_vec(alloc)?);
-    let mut sink = WholeSink::new(alloc);
-    let done = plain(alloc, words, &mut source, &mut sink);
+    let (done, written) = replayed(alloc, scenario)?;
     assert!(rt; done.status == Status::Ok && done.end.is_some());
-    assert_eq!(rt; sink.bytes(), report);
+    assert_eq!(rt; written.as_slice(), report);
     Ok(())
 }
 
 #[test]
 fn worked_scenarios(rt: HostRuntime) -> Result<(), Fail> {
-    let words = replay_word(rt.alloc())?;
     for (scenario, report) in WORKED {
-        expect_report(&rt, rt.alloc(), &words, scenario, report)?;
+        expect_report(&rt, rt.alloc(), scenario, report)?;
+    }
+    Ok(())
+}
+
+#[test]
+fn worked_texts_that_are_refused(rt: HostRuntime) -> Result<(), Fail> {
+    for (text, line) in REFUSED {
+        expect_line(&rt, rt.alloc(), text, line)?;
     }
     Ok(())
 }
