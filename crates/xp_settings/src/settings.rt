@@ -123,7 +123,11 @@ impl Settings {
 fn joins(warm: &Warm, first: PartId, second: PartId, channel: Channel) -> bool
     ensures { result ≡ joins first second channel warm.now }
 {
+    // The channel comes first: of all lines before, most are of another one.
+    if warm.channel != channel {
+        return false;
+    }
     let here = warm.first == first && warm.second == second;
     let there = warm.first == second && warm.second == first;
-    (here || there) && warm.channel == channel
+    here || there
 }
