@@ -82,7 +82,7 @@ closes : (reason : Reason) (e : End) → Quiet e (channel_closed reason e)
 closes reason e = closes_now e.shake.reason reason e
 
 goes_down : (reason : Reason) (e : End) → Quiet e (link_down reason e)
-goes_down reason e = either (is_begun e) e (close_now e.shake.reason reason e) (record { local = e; reason = None; notes = [] }) (closes_now e.shake.reason reason e) (λ t. t)
+goes_down reason e t = absurd (cc)
 
 -- commands and notices
 sends : (o : Option SendAnswer) (payload : List ℕ) (wait notify : Bool) (e : End) → Quiet e (send_begun o payload wait notify e)
@@ -185,7 +185,7 @@ module _ (c : ℕ) where
 
   module _ (y : Here) where
     meets : (x : Peer) → Copies x → Copies (try_contact y.stamp x).local
-    meets x k = cond_peer Copies (x.engage.second && (x.engage.shown && not (is_some x.contact))) (contact_made y.stamp x) (same_peer x) (each_quiet (λ i e. link_joined (contact_of y.stamp x.engage) e) x.engage.bit x.links (λ i e t. absurd (cc)) k) k
+    meets x k = cond_peer Copies (x.engage.second && (x.engage.shown && not (is_some x.contact))) (contact_made y.stamp x) (same_peer x) (each_quiet (λ i e. link_joined x.both_new (contact_of y.stamp x.engage) e) x.engage.bit x.links (λ i e t. absurd (cc)) k) k
 
     reads : (p : Peer) (o : Option Reading) (v : ℕ) → Copies p → Copies (record_read y p o v).local
     reads p None v h = cond_peer Copies (eqb v 0) _ _ h (cond_peer Copies (is_magic v) _ _ h h)

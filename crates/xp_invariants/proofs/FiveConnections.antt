@@ -1,6 +1,6 @@
 -- That one line can have five connections: two epochs of one contact, one of a contact that was lost and made anew, and one after a restart of each side.
 -- One end is run through all of it, fed with what its partner's words show; each part begins where the one before ends.
-use Rattle.std.proofs.Common.{◌≡◌, ℕ, ◌+◌, true, List, [], ◌∷◌, ◌++◌, refl, arith, Option, Some, None, inr}
+use Rattle.std.proofs.Common.{◌≡◌, ℕ, ◌+◌, true, false, List, [], ◌∷◌, ◌++◌, refl, arith, Option, Some, None, inr}
 use Rattle.std.specs.Prelude.{map}
 use Rattle.xp_base.specs.declared.layout.TheConstants.{SIGNATURE, VERSION, VARIABLES_AT, RECORDS_AT, ARGS_AT, COUNTERS_AT, FLAGS_AT}
 use Rattle.xp_base.specs.declared.reason.Reason.{Reason}
@@ -78,7 +78,7 @@ abbrev line : Link
 line = record { partner = 1; channel = 0; entries = 8; limit = 112 }
 
 abbrev first : End
-first = warm_end 0 line
+first = warm_end false line
 
 abbrev closing : List Step
 closing = Unregisters ∷ Does (StoreArgument Code) 0 ∷ Does (SetFlag CloseRequest) 0 ∷ Takes closed_by ∷ Does (ReadArgument Code) 2 ∷ Does (SetFlag CloseReply) 0 ∷ []
@@ -142,7 +142,7 @@ record Now : Type 0 where
   peer : Peer
 
 abbrev here : Now → Here
-here k = record { part = 0; turn = k.turn; wait = back_off_of 2; masked = true; stamp = k.stamp; read = true }
+here k = record { part = 0; version = VERSION; turn = k.turn; wait = back_off_of 2; masked = true; stamp = k.stamp; read = true }
 
 abbrev with_effect : Now → Effect Peer (ℕ → List Note) → Now
 with_effect k f = record k { peer = with_reason f.reason f.local }
@@ -196,7 +196,7 @@ meets count cleared m e =
 
 -- the contact is lost, since a load fails, and made anew
 abbrev lost_from : Now
-lost_from = record { turn = 5000; stamp = 1; peer = set_link (warm_peer 0 line (cold_peer Off)) 0 (connected 1 first_contact (Unregistered ∷ [])) }
+lost_from = record { turn = 5000; stamp = 1; peer = set_link (warm_peer false line (cold_peer Off)) 0 (connected 1 first_contact (Unregistered ∷ [])) }
 
 abbrev lost : List Move
 lost = Fails 1 ∷ For CloseArea 0 ∷ For TellPartner 0 ∷ For ClearEngagementBit 0 ∷ Frees ∷ Waits ∷ For (Prepare SessionWord) 0 ∷ For (Prepare EchoWord) 0 ∷ For (Prepare FlagWord) 0 ∷ For (Prepare (PlaceWord ArgsPlace)) 0 ∷ For (Prepare (PlaceWord CountersPlace)) 0 ∷ For (Prepare (PlaceWord FlagPlace)) 0 ∷ For (Prepare (PlaceWord ChannelCount)) 0 ∷ For (Prepare (PlaceWord Spare)) 0 ∷ For (Prepare (ArgsWord 0 0)) 0 ∷ For (Prepare (ArgsWord 0 1)) 0 ∷ For (Prepare (ArgsWord 0 2)) 0 ∷ For (Prepare (ArgsWord 0 3)) 0 ∷ For (Prepare (ArgsWord 1 0)) 0 ∷ For (Prepare (ArgsWord 1 1)) 0 ∷ For (Prepare (ArgsWord 1 2)) 0 ∷ For (Prepare (ArgsWord 1 3)) 0 ∷ For (Prepare (ArgsWord 2 0)) 0 ∷ For (Prepare (ArgsWord 2 1)) 0 ∷ For (Prepare (ArgsWord 2 2)) 0 ∷ For (Prepare (ArgsWord 2 3)) 0 ∷ For (Prepare (ArgsWord 3 0)) 0 ∷ For (Prepare (ArgsWord 3 1)) 0 ∷ For (Prepare (ArgsWord 3 2)) 0 ∷ For (Prepare (ArgsWord 3 3)) 0 ∷ For (Prepare (CounterWord 0 0)) 0 ∷ For (Prepare (CounterWord 0 1)) 0 ∷ For (Prepare (CounterWord 1 0)) 0 ∷ For (Prepare (CounterWord 1 1)) 0 ∷ For (Prepare (CounterWord 2 0)) 0 ∷ For (Prepare (CounterWord 2 1)) 0 ∷ For (Prepare (CounterWord 3 0)) 0 ∷ For (Prepare (CounterWord 3 1)) 0 ∷ For ClearDeactivationBit 0 ∷ For OpenArea 0 ∷ For LookAtPage SIGNATURE ∷ For LookAtPage VERSION ∷ For LookAtPage VARIABLES_AT ∷ For LookAtPage RECORDS_AT ∷ For LookAtPage 1 ∷ For AskActivation 0 ∷ For SetEngagementBit 0 ∷ For ReadRecord first_magic ∷ For ReadRecord 4294967298 ∷ For ReadRecord 0 ∷ For ReadRecord ARGS_AT ∷ For ReadRecord COUNTERS_AT ∷ For ReadRecord FLAGS_AT ∷ For ReadRecord 4 ∷ For ReadRecord 0 ∷ For StoreEcho 0 ∷ For StoreSecond 0 ∷ For ReadRecord second_magic ∷ For ReadRecord 4294967298 ∷ For ReadRecord 4294967298 ∷ For ReadRecord ARGS_AT ∷ For ReadRecord COUNTERS_AT ∷ For ReadRecord FLAGS_AT ∷ For ReadRecord 4 ∷ For ReadRecord 0 ∷ []

@@ -1,3 +1,4 @@
+pub mod Agreed
 pub mod Clear
 pub mod Copies
 pub mod Standing

@@ -16,7 +16,8 @@ use Rattle.xp_script.specs.Lawful.{IsLawful}
 use Rattle.xp_script.specs.Opening.{opening}
 use Rattle.xp_script.specs.Parts.{part_of}
 use Rattle.xp_protocol.specs.Decode.{rule_of}
-use Rattle.xp_protocol.specs.Promised.{IsLine, Name, name_of, exchanged, by_name, first_named, accepted_of, acked_of, records_of, memory_by, word_of, known_acted}
+use Rattle.xp_protocol.specs.Promised.{IsLine, Name, name_of, exchanged, by_name, first_named, accepted_of, acked_of, records_of, memory_by, word_of, known_acted, size_got, size_sent}
+use Rattle.xp_protocol.specs.Linking.{agreed}
 use Rattle.xp_protocol.specs.Reached.{ReachedWords, state_at}
 use Rattle.xp_protocol.specs.Pulling.{Pulling}
 use Rattle.xp_protocol.specs.Records.{Recorded}
@@ -46,6 +47,7 @@ use Rattle.xp_invariants.specs.Between.{word_after, IsStepBy}
 use Rattle.xp_invariants.specs.Flags.{InContact}
 use Rattle.xp_invariants.specs.Limits.{HaveOneLimit, Limits}
 use Rattle.xp_invariants.specs.Lines.{get_word, put_word, message, IsReceived, HoldMessages, AreCopied, IsSent, IsCounterRule, StoresCounter, Lines}
+use Rattle.xp_invariants.proofs.Agreed.{known_size, has_agreed, one_limit}
 use Rattle.xp_invariants.proofs.Counted.{counter_kept}
 use Rattle.xp_invariants.proofs.Onward.{step_state}
 use Rattle.xp_invariants.proofs.Standing.{Standing, lawful, reached_by, before_stands, known_at}
@@ -212,37 +214,14 @@ module _ (s : Scenario) (law : IsLawful s) (h : List Event) (m : Memory) (given 
 
       -- the sizes of both ends
       module _ (there : InContact g) where
-        sending_kept : Kept (out_of x.ring.put x.ring.entry mine_now e.sides.send) (in_of y.ring.get theirs_now (in_side room.b))
-        sending_kept = sent_at x y q c e opens room.own room.theirs rs ss room.b line
+        epoch_there : e.epoch ≡ g.epoch
+        epoch_there = even ∙ ap (λ (v : View). v.control.epoch) (room.there there)
 
-        send_is : room.b.sides.send ≡ g.sides.send
-        send_is = ap (λ (v : View). v.parts.send) (room.there there)
+        completes : g.shake.sent.open_complete ≡ true
+        completes = ap (λ (v : View). v.control.sent.ocomp) (sym (room.there there)) ∙ (copying (control e) (control room.b) (five x.flags) (five y.flags) (opens.copy (control room.b) line.flags) line.flags).their
 
-        pull_is : room.b.sides.pull ≡ g.sides.pull
-        pull_is = ap (λ (v : View). v.parts.inn.pull) (room.there there)
-
-        replied : (control e).sent.orep ≡ true
-        replied = (line.flags.fit_a.ocomp (opens.copy (control room.b) line.flags).0).0
-
-        limit_own : e.sides.send.limit ≡ e.sides.pull.limit
-        limit_own = line.argued.mine.equal replied
-
-        requested : (control e).sent.oreq ≡ true
-        requested = (line.flags.fit_a.orep replied).0
-
-        limit_theirs : g.sides.send.limit ≡ e.sides.send.limit
-        limit_theirs = ap (λ (z : Sending). z.limit) (sym send_is) ∙ sym kept.chain.same_limit ∙ sym limit_own
-
-        one_limit : HaveOneLimit e g
-        one_limit = record {
-          own = limit_own;
-          theirs = limit_theirs;
-          read = ap (λ (z : Pulling). z.limit) (sym pull_is) ∙ sending_kept.chain.same_limit;
-          lines = ap lines limit_theirs;
-          queue = ap (λ (z : Pulling). z.entries) (sym pull_is) ∙ sending_kept.chain.same_entries;
-          their_queue = kept.chain.same_entries ∙ ap (λ (z : Sending). z.entries) send_is;
-          size = line.argued.mine.size requested;
-        }
+        limits_now : HaveOneLimit e g
+        limits_now = one_limit room.own room.theirs x y rs ss e g (subst (λ (v : View). Line room.own room.theirs x y rs ss (view e) v) (room.there there) line) epoch_there opens.opened completes
 
     -- an end in contact
     module _ (here : InContact e) where
@@ -251,6 +230,19 @@ module _ (s : Scenario) (law : IsLawful s) (h : List Event) (m : Memory) (given 
 
       line_in : Line room_in.own room_in.theirs x y rs ss (view e) (view room_in.b)
       line_in = subst (λ (v : View). Line room_in.own room_in.theirs x y rs ss v (view room_in.b)) (room_in.here here) room_in.line
+
+      line_there : InContact g → Line room_in.own room_in.theirs x y rs ss (view e) (view g)
+      line_there there = subst (λ (v : View). Line room_in.own room_in.theirs x y rs ss (view e) v) (room_in.there there) line_in
+
+      known_now : InContact g → e.epoch ≡ g.epoch → g.shake.got.open_request ≡ true → size_got g ≡ size_sent e
+      known_now there = known_size room_in.own room_in.theirs x y rs ss e g (line_there there)
+
+      -- what an end knows of the limit is true of its partner as it was, too
+      replied_now : e.shake.sent.open_reply ≡ true → is_some (agreed e.shake) ≡ true
+      replied_now = has_agreed room_in.own room_in.theirs x y rs ss e room_in.b line_in
+
+      open_now : InContact g → e.epoch ≡ g.epoch → e.shake.sent.open_complete ≡ true → g.shake.sent.open_complete ≡ true → HaveOneLimit e g
+      open_now there = one_limit room_in.own room_in.theirs x y rs ss e g (line_there there)
 
       abbrev record_in : Recorded
       record_in = named room_in.own room_in.theirs e.epoch rs
@@ -381,7 +373,16 @@ lines_kept s law h m r = record {
 
 pub limits_kept : (s : Scenario) → IsLawful s → (h : List Event) (m : Memory) → ReachedWords s h m → Limits s h
 limits_kept s law h m r = record {
+  known = λ p q c l. (let P : State → State → Type 0 = λ a b. InContact (end_of a q c) → InContact (end_of b p c) → (end_of a q c).epoch ≡ (end_of b p c).epoch → (end_of b p c).shake.got.open_request ≡ true → size_got (end_of b p c) ≡ size_sent (end_of a q c) in
+      both p q P (λ here there. known_now s law h m r p q c l here there));
+  replied = λ p q c l. (let P : State → State → Type 0 = λ a b. InContact (end_of a q c) → (end_of a q c).shake.sent.open_reply ≡ true → is_some (agreed (end_of a q c).shake) ≡ true in
+      both p q P (λ here. replied_now s law h m r p q c l here));
+  open_limit = λ p q c l. (let P : State → State → Type 0 = λ a b. InContact (end_of a q c) → InContact (end_of b p c) → (end_of a q c).epoch ≡ (end_of b p c).epoch → (end_of a q c).shake.sent.open_complete ≡ true → (end_of b p c).shake.sent.open_complete ≡ true → HaveOneLimit (end_of a q c) (end_of b p c) in
+      both p q P (λ here there. open_now s law h m r p q c l here there));
   one_limit = λ p q c l. (let P : State → State → Type 0 = λ a b. may_copy (end_of a q c) ≡ true → InContact (end_of b p c) → HaveOneLimit (end_of a q c) (end_of b p c) in
-      subst (λ (a : State). P a (state_at s h q)) (known_at s law h p) (subst (λ (b : State). P (part_at s h p).state b) (known_at s law h q) (λ may there. one_limit s law h m r p q c l may there)));
+      both p q P (λ may there. limits_now s law h m r p q c l may there));
   versions = versions_kept s law h (memory_by (opening s) h) (reached s law h m r);
 }
+  where
+    both : (p q : ℕ) (P : State → State → Type 0) → P (part_at s h p).state (part_at s h q).state → P (state_at s h p) (state_at s h q)
+    both p q P x = subst (λ (a : State). P a (state_at s h q)) (known_at s law h p) (subst (λ (b : State). P (part_at s h p).state b) (known_at s law h q) x)

@@ -18,7 +18,7 @@ use Rattle.xp_protocol.specs.Promised.{memory_by}
 use Rattle.xp_protocol.specs.Reached.{ReachedWords, state_at}
 use Rattle.xp_protocol.specs.Rules.{Can}
 use Rattle.xp_protocol.specs.Runs.{turned, restart_comes, stop_comes, is_over}
-use Rattle.xp_protocol.specs.State.{End, opening_life, opened_state, end_of, peer_of}
+use Rattle.xp_protocol.specs.State.{End, opening_life, opened_new, opened_state, end_of, peer_of}
 use Rattle.xp_protocol.proofs.LawfulParts.{lawful_part}
 use Rattle.xp_protocol.proofs.Opened.{opened_fact}
 use Rattle.xp_meetings.proofs.Always.{at_one, one_here, does_rule, answer_word}
@@ -98,11 +98,11 @@ module _ (s : Scenario) (law : IsLawful s) where
       let ls = links_of s p in
       let b = is_linked ls q in
       let P : Posture → Six → Type 0 = λ o z. Clear (opening_life ls) o.engage.area o.engage.bit o.engage.second o.engage.cleared z.magic z.bit in
-      subst (λ (o : Posture). P o (six (opening_words s) p q)) (sym (start_at s.count p ls q m)) (subst (λ (z : Six). P (cond b warm_posture (base_posture ls)) z) (sym (six_first s law p q l m)) (clear_by b ls 0))
+      subst (λ (o : Posture). P o (six (opening_words s) p q)) (sym (start_at s.count (opened_new (part_of s p)) ls q m)) (subst (λ (z : Six). P (cond b warm_posture (base_posture ls)) z) (sym (six_first s law p q l m)) (clear_by b ls 0))
 
   copies_first : (p q c : ℕ) → Copies c (peer_of (opened_state (part_of s p)) q)
   copies_first p q c t =
-      let none : is_copied (end_of (opened_state (part_of s p)) q c) ≡ false = opened_fact (part_of s p) q c (λ (e : End). is_copied e ≡ false) refl (λ l. refl) in
+      let none : is_copied (end_of (opened_state (part_of s p)) q c) ≡ false = opened_fact (part_of s p) q c (λ (e : End). is_copied e ≡ false) refl (λ new. refl) (λ new l. refl) in
       let z : false ≡ true = sym none ∙ t in
       absurd (cc)
 

@@ -44,7 +44,9 @@ pub fn lines_hold()
 {}
 
 /// Whatever history the rules reach in a lawful scenario: both ends of a connection have one limit,
-/// and so as many lines an entry, and each reads the other's queue as long as it is.
+/// the lesser of the two that they asked for, and so as many lines an entry, and each reads the
+/// other's queue as long as it is. They open with different limits only where both versions know
+/// entries of several lines.
 pub fn limits_agree()
     ensures { (s : Scenario) → IsLawful s →
         (h : List Event) (m : Memory) → ReachedWords s h m → Limits s h }
