@@ -4,3 +4,4 @@ pub mod Duties
 pub mod Spots
 pub mod Sources
 pub mod Asked
+pub mod Asides

@@ -336,3 +336,51 @@ module _ {State Errand Rule : Type 0} (p : Plan State Errand Rule) where
   busy_turn k e used v st t b more asks =
       let G : Found Errand Rule → Type 0 = λ f. ((planned_here p v.ring st f f.turn).rule ≡ t) × (used + 1 < p.quota e → Busy k e (used + 1) (planned_here p v.ring st f f.turn).visit) in
       subst G (sym (busy_found k e used v st t b more asks)) (refl, λ two. busy_on k e used v (e ∷ b.back) t b refl two)
+
+  -- another errand is at work and asks for the turn: the errand that is waited for comes nearer
+  pub record Aside (e : Errand) (v : Visit Errand) (st : State) : Type 0 where
+    pub place : ℕ
+    pub errand : Errand
+    pub used : ℕ
+    pub busy : Busy place errand used v
+    pub few : used < p.quota errand
+    pub turn : Option Rule
+    pub asks : p.ask place errand used st ≡ Some turn
+    pub other : errand ≡ e → 0 < used
+
+  aside_first : (e x : Errand) (used : ℕ) (v : Visit Errand) (front back rest : List Errand) → front ++ (e ∷ back) ≡ x ∷ rest → Begun front v.used → v.used ≡ used → (x ≡ e → 0 < used) → (fronts : List Errand) × (front ≡ x ∷ fronts)
+  aside_first e x used v [] back rest same begun is other = absurd (let h = other (cc) in omega (arith, h, is, begun))
+  aside_first e x used v (y ∷ fronts) back rest same begun is other = let i : y ≡ x = cc in (fronts, ap (λ (z : Errand). z ∷ fronts) i)
+
+  pub aside_waits : (k : ℕ) (e : Errand) (n : ℕ) (st : State) (v : Visit Errand) → 1 ≤ p.quota e → p.quota e ≤ VISIT_TURNS → k < v.ring.count → IsRing v.ring → Aside e v st → Waits k e n v → Closer k e n (planned p v st).visit
+  aside_waits k e n st v some most low h a w =
+      let G : Found Errand Rule → Type 0 = λ f. Closer k e n (planned_here p v.ring st f f.turn).visit in
+      subst G (sym (busy_found a.place a.errand a.used v st a.turn a.busy a.few a.asks)) (by w)
+    where
+      by : Waits k e n v → Closer k e n (turn_spent v.ring (record { rest = a.errand ∷ a.busy.back; used = a.used; turn = Some a.turn }))
+      by (inr (inl f)) = absurd (let s = a.busy.some in let z = f.none in omega (arith, s, z))
+      by (inr (inr few)) = nearer k e n v.ring (turn_spent v.ring (record { rest = a.errand ∷ a.busy.back; used = a.used; turn = Some a.turn })) most few (turns_on k true v.ring low h) low h
+      by (inl g) = at (aside_first e a.errand a.used v g.front g.back a.busy.back (sym g.rest ∙ a.busy.rest) g.begun a.busy.is a.other) where
+        at : (fronts : List Errand) × (g.front ≡ a.errand ∷ fronts) → Closer k e n (turn_spent v.ring (record { rest = a.errand ∷ a.busy.back; used = a.used; turn = Some a.turn }))
+        at y =
+            let c : cost p g.front ≡ p.quota a.errand + cost p y.0 = ap (λ (es : List Errand). cost p es) y.1 in
+            let l = g.low in
+            let u = a.busy.is in
+            let f = a.few in
+            let m = g.few in
+            let t = on_turn v.ring (omega (arith, c, l, u, f, some)) in
+            let made : (after_turn true v.ring).made ≡ v.ring.made + 1 = ap (λ (x : Ring). x.made) t in
+            record {
+              fewer = n - 1;
+              low = omega (arith, c, u, f, m);
+              waits = inl (record {
+                at = ap (λ (x : Ring). x.at) t ∙ g.at;
+                some = omega (arith, made);
+                front = g.front;
+                back = g.back;
+                rest = sym a.busy.rest ∙ g.rest;
+                begun = subst (λ (es : List Errand). Begun es (a.used + 1)) (sym y.1) (omega (arith, f));
+                low = omega (arith, made, l, u);
+                few = omega (arith, m, u, c, f);
+              });
+            }
