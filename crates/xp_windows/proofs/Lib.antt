@@ -11,3 +11,12 @@ pub mod Serving
 pub mod Kept
 pub mod Takes
 pub mod Leaves
+pub mod Lives
+pub mod Boots
+pub mod Peers
+pub mod PeerFrames
+pub mod Planned
+pub mod Looks
+pub mod EndFrames
+pub mod Engaged
+pub mod Rests

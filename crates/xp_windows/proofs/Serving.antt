@@ -1,5 +1,5 @@
 -- In each window what is owed is served.
-use Rattle.std.proofs.Common.{◌≡◌, ℕ, ◌+◌, ◌*◌, ◌<◌, ◌≤◌, Bool, true, false, List, [], ◌∷◌, ◌++◌, length, refl, sym, subst, arith, inl, Some}
+use Rattle.std.proofs.Common.{◌≡◌, ℕ, ◌+◌, ◌*◌, ◌<◌, ◌≤◌, Bool, true, false, List, [], ◌∷◌, ◌++◌, length, refl, ap, sym, ◌∙◌, subst, arith, inl, Some}
 use Rattle.std.specs.Prelude.{IsSome, ◌-◌, nat_lt, nat_eq, ◌||◌, if◌then◌else◌}
 use Rattle.std.proofs.lemmas.Bool.{or_left}
 use Rattle.std.proofs.lemmas.Bool.Decides.{nat_tests}
@@ -10,16 +10,18 @@ use Rattle.xp_script.specs.declared.command.Command.TheVariants.{Take}
 use Rattle.xp_script.specs.declared.part.ScenarioPart.{ScenarioPart}
 use Rattle.xp_rounds.specs.declared.rounds.TheConstants.{VISIT_TURNS}
 use Rattle.xp_rounds.specs.Visit.{Visit, planned}
+use Rattle.xp_rounds.proofs.Spots.{Spot}
+use Rattle.xp_rounds.proofs.Visits.{planned_on}
 use Rattle.xp_rounds.proofs.Sources.{Paced, planned_paced}
 use Rattle.xp_protocol.specs.Parts.{IsLawfulPart, IsPeer, script_in}
-use Rattle.xp_protocol.specs.State.{State, Up}
+use Rattle.xp_protocol.specs.State.{State, Booting, Up}
 use Rattle.xp_protocol.specs.Acts.{current, due}
 use Rattle.xp_protocol.proofs.Lawful.{lawful_command}
 use Rattle.xp_protocol.specs.Runs.{Runs, RunsFrom, start, after_turn, state_after}
 use Rattle.xp_plan.specs.declared.errand.Errand.{Errand}
 use Rattle.xp_plan.specs.Plan.{plan_of, IsVisit, first_visit}
 use Rattle.xp_plan.proofs.Visiting.{first_is, next_is}
-use Rattle.xp_windows.specs.Windows.{middle, begins, answers, IsUp, SomeTurn, Throughout, IsTaking, Owed, Windows}
+use Rattle.xp_windows.specs.Windows.{middle, begins, answers, IsUp, SomeTurn, Throughout, IsTaking, IsBooting, Owed, IsWindow, Windows}
 use Rattle.xp_windows.specs.Visited.{visit_after, FollowsFrom, ArePrompt, Visited}
 use Rattle.xp_windows.proofs.Places.{Turns, follows_plan, first_holds, placed, peer_placed}
 use Rattle.xp_windows.proofs.Throughout.{activations_taken, deactivations_taken, engagements_read, flags_taken, sends_made}
@@ -27,6 +29,9 @@ use Rattle.xp_windows.proofs.Signals.{requests_made, gets_stored}
 use Rattle.xp_windows.proofs.Copies.{whole, copies_made}
 use Rattle.xp_windows.proofs.Takes.{takes_made}
 use Rattle.xp_windows.proofs.Leaves.{areas_closed, partners_told}
+use Rattle.xp_windows.proofs.Looks.{Tied, tied_next, tied_first, looks_made}
+use Rattle.xp_windows.proofs.Boots.{AtBoot, boot_kept, boot_over, left_few}
+use Rattle.xp_windows.proofs.Peers.{begun_all, turns_all}
 
 -- turns that follow the plan, from some visit on
 record Going (s : ScenarioPart) (v : Visit Errand) (st : State) (ts : List Turn) : Type 0 where
@@ -35,6 +40,8 @@ record Going (s : ScenarioPart) (v : Visit Errand) (st : State) (ts : List Turn)
   runs : RunsFrom s st ts
   follows : FollowsFrom s v st ts
   prompt : ArePrompt s st ts
+  boot : st.life ≡ Booting → AtBoot v
+  tied : (q : ℕ) (x : Spot s.part s.count q) → Tied s x.number q v st
 
 -- the first visit of a boot is paced
 fresh_paced : (s : ScenarioPart) → Paced (plan_of s) (whole s) (first_visit s)
@@ -53,13 +60,13 @@ paced_on s v st t h = by (nat_eq (after_turn s st t).clock.boots st.clock.boots)
   by false = fresh_paced s
 
 next : (s : ScenarioPart) (v : Visit Errand) (st : State) (t : Turn) (ts : List Turn) → IsLawfulPart s → Going s v st (t ∷ ts) → Going s (visit_after s v st t) (after_turn s st t) ts
-next s v st t ts l x = record { visit = visit_on s v st t l x.visit; paced = paced_on s v st t x.paced; runs = x.runs.1; follows = x.follows.1; prompt = x.prompt.1 }
+next s v st t ts l x = record { visit = visit_on s v st t l x.visit; paced = paced_on s v st t x.paced; runs = x.runs.1; follows = x.follows.1; prompt = x.prompt.1; boot = boot_kept s v st t x.visit.ring x.boot; tied = λ q y. tied_next s q y v st t x.paced x.runs.0 x.follows.0 (x.tied q y) }
 
 cut : (s : ScenarioPart) (v : Visit Errand) (st : State) (window after : List Turn) → IsLawfulPart s → Going s v st (window ++ after) → Going s v st window
-cut s v st [] after l x = record { visit = x.visit; paced = x.paced; runs = tt; follows = tt; prompt = tt }
+cut s v st [] after l x = record { visit = x.visit; paced = x.paced; runs = tt; follows = tt; prompt = tt; boot = x.boot; tied = x.tied }
 cut s v st (t ∷ ts) after l x =
     let y = cut s (visit_after s v st t) (after_turn s st t) ts after l (next s v st t (ts ++ after) l x) in
-    record { visit = x.visit; paced = x.paced; runs = (x.runs.0, y.runs); follows = (x.follows.0, y.follows); prompt = (x.prompt.0, y.prompt) }
+    record { visit = x.visit; paced = x.paced; runs = (x.runs.0, y.runs); follows = (x.follows.0, y.follows); prompt = (x.prompt.0, y.prompt); boot = x.boot; tied = x.tied }
 
 record Window (s : ScenarioPart) (st : State) (window : List Turn) : Type 0 where
   visit : Visit Errand
@@ -92,6 +99,7 @@ owed s boot st window l long up w =
       answers = λ h. first_answers s st window (omega (arith, long)) x.prompt h;
       activations = activations_taken boot s some w.visit st window enough y;
       deactivations = deactivations_taken boot s some w.visit st window enough y;
+      looks = λ q p. let z = placed s q l p in looks_made s q z boot w.visit st window enough y x.paced (x.tied q z);
       engagements = λ h. engagements_read boot s some w.visit st window enough y h;
       flags = λ q p h. flags_taken boot s q (placed s q l p) w.visit st window enough y h;
       requests = λ q c p owes h. requests_made boot s q c (peer_placed s q c l p) p.2 w.visit st window enough y h owes;
@@ -109,9 +117,34 @@ long_window count h = by (nat_lt WINDOW_PARTS count) refl where
   by true e = let m : 8 < count = grind (arith, nat_tests) in omega (arith, m)
   by false e = let m : count ≤ 8 = grind (arith, nat_tests) in omega (arith, m)
 
-pub served : (s : ScenarioPart) → IsLawfulPart s → (ts : List Turn) → Runs s ts → Visited s ts → Windows s ts
-served s l ts runs v = λ before window after e n up.
-    let x : Going s (first_visit s) (start s) ts = record { visit = first_is s l; paced = fresh_paced s; runs = runs; follows = v.follows; prompt = v.prompt } in
-    let y = subst (λ (us : List Turn). Going s (first_visit s) (start s) us) e x in
+-- a boot is over before a window is
+no_boot : (s : ScenarioPart) (boot : ℕ) (st : State) (window : List Turn) → IsLawfulPart s → length st.peers ≡ s.count → VISIT_TURNS * s.count + VISIT_TURNS + 1 < length window → Window s st window → Throughout (IsBooting boot) s st window → ⊥
+no_boot s boot st window l few long w up =
+    let x = w.turns in
+    let less = boot_over s boot w.visit st window x.visit.ring (x.boot (first_holds (IsBooting boot) s st window up).booting) (λ v y ring. (planned_on (plan_of s) y v ring).0) x.runs x.follows up in
+    let most = left_few s.part st in
+    let p = l.part in
+    omega (arith, less, most, few, long, p)
+
+record Reached (s : ScenarioPart) (st : State) (window : List Turn) : Type 0 where
+  here : Window s st window
+  long : VISIT_TURNS * s.count + VISIT_TURNS + 1 < length window
+  all : length st.peers ≡ s.count
+
+reached : (s : ScenarioPart) (ts : List Turn) (st : State) (window : List Turn) → IsLawfulPart s → Runs s ts → Visited s ts → IsWindow s ts st window → Reached s st window
+reached s ts st window l runs v w =
+    let x : Going s (first_visit s) (start s) ts = record { visit = first_is s l; paced = fresh_paced s; runs = runs; follows = v.follows; prompt = v.prompt; boot = λ e. inl refl; tied = λ q y. tied_first s y.number q } in
+    let y = subst (λ (us : List Turn). Going s (first_visit s) (start s) us) w.turns x in
     let few = long_window s.count l.count in
-    owed s (state_after s (start s) before).clock.boots (state_after s (start s) before) window l (subst (λ (k : ℕ). VISIT_TURNS * s.count + VISIT_TURNS + 1 < k) (sym n) few) up (reach s (first_visit s) (start s) before window after l y)
+    let n = w.long in
+    record {
+      here = subst (λ (z : State). Window s z window) (sym w.state) (reach s (first_visit s) (start s) w.before window w.after l y);
+      long = omega (arith, few, n);
+      all = ap (λ (z : State). length z.peers) w.state ∙ (turns_all s (start s) w.before (begun_all s)).partners;
+    }
+
+pub served : (s : ScenarioPart) → IsLawfulPart s → (ts : List Turn) → Runs s ts → Visited s ts → Windows s ts
+served s l ts runs v = record {
+  owed = λ st window w up. let x = reached s ts st window l runs v w in owed s st.clock.boots st window l x.long up x.here;
+  boots = λ st window w up. let x = reached s ts st window l runs v w in no_boot s st.clock.boots st window l x.all x.long x.here up;
+}

@@ -11,17 +11,17 @@ use Rattle.xp_protocol.specs.declared.rule.LinkRule.{LinkRule}
 use Rattle.xp_protocol.specs.declared.rule.LinkRule.TheVariants.{Ring, Pull, Acknowledge, SetFlag}
 use Rattle.xp_protocol.specs.declared.rule.PullRule.TheVariants.{ReadCounters, ReadEntry}
 use Rattle.xp_protocol.specs.declared.rule.PeerRule.{PeerRule}
-use Rattle.xp_protocol.specs.declared.rule.PeerRule.TheVariants.{TakeFlags, CloseArea, TellPartner}
+use Rattle.xp_protocol.specs.declared.rule.PeerRule.TheVariants.{TakeFlags, CloseArea, LookAtPage, TellPartner}
 use Rattle.xp_protocol.specs.declared.rule.OwnRule.{OwnRule}
 use Rattle.xp_protocol.specs.declared.rule.OwnRule.TheVariants.{TakeActivation, TakeDeactivation, ReadEngaged}
 use Rattle.xp_protocol.specs.declared.rule.Rule.{Rule}
 use Rattle.xp_protocol.specs.declared.rule.Rule.TheVariants.{Link, Peer as ForPeer, Own}
 use Rattle.xp_protocol.specs.Parts.{IsPeer, script_in}
-use Rattle.xp_protocol.specs.State.{State, Up, Ready, Leaving, End, end_of, peer_of, is_connected}
+use Rattle.xp_protocol.specs.State.{State, Booting, Up, Ready, Leaving, Peer, End, end_of, peer_of, is_connected}
 use Rattle.xp_protocol.specs.Rules.{IsPartner}
 use Rattle.xp_protocol.specs.Decode.{rule_of}
 use Rattle.xp_protocol.specs.Acts.{current, due, after_acts}
-use Rattle.xp_protocol.specs.Runs.{start, after_turn, state_after}
+use Rattle.xp_protocol.specs.Runs.{start, after_step, after_turn, state_after}
 use Rattle.xp_plan.specs.EndSteps.{has_entry}
 use Rattle.xp_plan.specs.PeerSteps.{any_left}
 
@@ -53,6 +53,12 @@ SomeThen E F s st [] = ⊥
 SomeThen E F s st (t ∷ ts) =
     (E st t × SomeTurn F s (after_turn s st t) ts) ⊎ SomeThen E F s (after_turn s st t) ts
 
+-- one of some turns is such a one, and itself or a later one of them is such another
+abbrev pub SomeFrom : (E F : State → Turn → Type 0) → ScenarioPart → State → List Turn → Type 0
+SomeFrom E F s st [] = ⊥
+SomeFrom E F s st (t ∷ ts) =
+    (E st t × SomeTurn F s st (t ∷ ts)) ⊎ SomeFrom E F s (after_turn s st t) ts
+
 abbrev pub Throughout : (State → Type 0) → ScenarioPart → State → List Turn → Type 0
 Throughout C s st [] = C st
 Throughout C s st (t ∷ ts) = C st × C (middle s st t) × Throughout C s (after_turn s st t) ts
@@ -66,9 +72,23 @@ pub record Steps (E : State → Rule → Type 0) (s : ScenarioPart) (st : State)
   pub decoded : rule_of s (middle s st t) step.step.op step.mark ≡ Some rule
   pub is : E (middle s st t) rule
 
+-- the turn makes a step for a partner, of which this is said by the partner as it is known right
+-- before the step and right after it
+pub record Changes (E : Peer → Peer → Type 0) (m : PeerRule) (s : ScenarioPart) (q : ℕ) (st : State)
+    (t : Turn) : Type 0 where
+  pub step : Marked
+  pub made : t.made ≡ Some step
+  pub decoded : rule_of s (middle s st t) step.step.op step.mark ≡ Some (ForPeer q m)
+  pub is : E (peer_of (middle s st t) q) (peer_of (after_step s (middle s st t) t.made) q)
+
 -- the partition is up, in its boot of this number
 pub record IsUp (number : ℕ) (st : State) : Type 0 where
   pub up : st.life ≡ Up
+  pub boot : st.clock.boots ≡ number
+
+-- the partition boots, for this number of times
+pub record IsBooting (number : ℕ) (st : State) : Type 0 where
+  pub booting : st.life ≡ Booting
   pub boot : st.clock.boots ≡ number
 
 -- a partner is in contact, the own memory stands open to it, and no reason to deactivate it stands
@@ -150,6 +170,14 @@ IsFor q m st r = r ≡ ForPeer q m
 abbrev pub IsOwn : OwnRule → State → Rule → Type 0
 IsOwn m st r = r ≡ Own m
 
+-- a look is begun by a load where none goes on, and over with one after which none does: its fifth, or
+-- one that fails
+abbrev pub BeginsLook : Peer → Peer → Type 0
+BeginsLook p after = p.paging ≡ []
+
+abbrev pub EndsLook : Peer → Peer → Type 0
+EndsLook p after = after.paging ≡ []
+
 -- what is owed of the turns of a window that begins in this state
 pub record Owed (s : ScenarioPart) (st : State) (window : List Turn) : Type 0 where
   pub begins : st.script.doing ≡ false →
@@ -159,6 +187,8 @@ pub record Owed (s : ScenarioPart) (st : State) (window : List Turn) : Type 0 wh
       SomeTurn (λ x t. (answers t.before || answers t.after) ≡ true) s st window
   pub activations : SomeTurn (Steps (IsOwn TakeActivation) s) s st window
   pub deactivations : SomeTurn (Steps (IsOwn TakeDeactivation) s) s st window
+  pub looks : (q : ℕ) → IsPartner s q →
+      SomeFrom (Changes BeginsLook LookAtPage s q) (Changes EndsLook LookAtPage s q) s st window
   pub engagements : Throughout (IsLeft s) s st window →
       SomeTurn (Steps (IsOwn ReadEngaged) s) s st window
   pub flags : (q : ℕ) → IsPartner s q → Throughout (IsMet q) s st window →
@@ -183,10 +213,19 @@ pub record Owed (s : ScenarioPart) (st : State) (window : List Turn) : Type 0 wh
       (peer_of st q).engage.bit ≡ true → (peer_of st q).engage.told ≡ false →
       SomeTurn (Steps (IsFor q TellPartner) s) s st window
 
--- in each window of consecutive turns of one boot what is owed is done
-abbrev pub Windows : ScenarioPart → List Turn → Type 0
-Windows s ts =
-    (before window after : List Turn) → ts ≡ before ++ (window ++ after) →
-    length window ≡ window_of s.count →
-    let st = state_after s (start s) before in
-    Throughout (IsUp st.clock.boots) s st window → Owed s st window
+-- some consecutive turns, as many as a window has, and the state before them
+pub record IsWindow (s : ScenarioPart) (ts : List Turn) (st : State) (window : List Turn) :
+    Type 0 where
+  pub before : List Turn
+  pub after : List Turn
+  pub turns : ts ≡ before ++ (window ++ after)
+  pub long : length window ≡ window_of s.count
+  pub state : st ≡ state_after s (start s) before
+
+-- in each window of one boot what is owed is done; and no window is of a boot that isn't over: a
+-- partition that boots is up within a window, or its stamp couldn't be raised, or it stopped
+pub record Windows (s : ScenarioPart) (ts : List Turn) : Type 0 where
+  pub owed : (st : State) (window : List Turn) → IsWindow s ts st window →
+      Throughout (IsUp st.clock.boots) s st window → Owed s st window
+  pub boots : (st : State) (window : List Turn) → IsWindow s ts st window →
+      Throughout (IsBooting st.clock.boots) s st window → ⊥

@@ -1,0 +1,128 @@
+-- What acts and steps leave of a fact of one partner: all rules are said once, and a fact says what it
+-- has to stand.
+use Rattle.std.proofs.Common.{◌≡◌, ◌≤◌, ℕ, Bool, true, false, ◌&&◌, List, [], ◌∷◌, length, refl, ap, sym, ◌∙◌, subst, arith, replicate, inl, inr, ◌⊎◌, ◌<◌, Option, Some, None}
+use Rattle.std.specs.Prelude.{IsSome, is_some, not, if◌then◌else◌, slice_set}
+use Rattle.std.proofs.lemmas.List.{get_or_past, get_or-replicate, length-replicate}
+use Rattle.std.proofs.lemmas.Bool.{cases_lt}
+use Rattle.xp_base.specs.declared.reason.Reason.{Reason}
+use Rattle.xp_base.specs.declared.reason.Reason.TheVariants.{OtherGoingDown}
+use Rattle.xp_base.specs.declared.step.Answer.{Answer}
+use Rattle.xp_base.specs.declared.step.Answer.TheVariants.{Word, Failed}
+use Rattle.xp_base.specs.declared.step.CopyKind.{CopyKind}
+use Rattle.xp_base.specs.declared.step.CopyMark.{CopyMark}
+use Rattle.xp_base.specs.History.{Act, Marked, Turn}
+use Rattle.xp_script.specs.declared.part.Link.{Link as ScenarioLink}
+use Rattle.xp_script.specs.declared.part.ScenarioPart.{ScenarioPart}
+use Rattle.xp_protocol.specs.declared.rule.PeerRule.{PeerRule}
+use Rattle.xp_protocol.specs.declared.rule.OwnRule.TheVariants.{ReadEngaged, TakeDeactivation, ReadStamp, ZeroMask, ZeroOffline, WriteStamp, StoreMask, TakeActivation}
+use Rattle.xp_protocol.specs.declared.rule.Rule.{Rule}
+use Rattle.xp_protocol.specs.declared.rule.Rule.TheVariants.{Link, Peer as ForPeer, Own}
+use Rattle.xp_protocol.specs.State.{State, End, Going, Peer, PeerGoing, Old, cold_peer, end_of, peer_at, peer_of, set_link, warm_peer, opened_peers, base_peer, first_peers, opened_state}
+use Rattle.xp_protocol.specs.Peering.{Here, peer_can, peer_effect, peer_read, deactivation_heard, area_off, same_peer, is_left, is_flagged, with_reason, copy_ended, booted_peer}
+use Rattle.xp_protocol.specs.Rules.{Can, numbered, link_answered, place_for, here_of, mark_of, peer_answered, after_answer}
+use Rattle.xp_protocol.specs.Acts.{Aim, aimed, with_aim, command_begun, unwanted, wanted_again, after_act, after_acts}
+use Rattle.xp_protocol.specs.Decode.{rule_of}
+use Rattle.xp_protocol.specs.Runs.{MayMake, MayStep, after_ruled, after_step, moment, moment_by, restart_comes, stop_comes, is_over, start}
+use Rattle.xp_protocol.proofs.Slots.{at_each, at_peer}
+use Rattle.xp_protocol.proofs.Frames.{wanted_at}
+
+-- acts: an end changes, and a partner isn't wanted any more or is wanted again
+pub record ActsLeave (P : Peer → Type 0) : Type 0 where
+  pub linked : (p : Peer) (links : List End) → P p → P (record p { links = links })
+  pub unwanted : (p : Peer) → P p → P (unwanted p)
+  pub wanted : (p : Peer) → P p → P (wanted_again p)
+
+-- steps; N says what is known of a step for the partner besides
+pub record StepsLeave (N : Peer → PeerRule → Type 0) (P : Peer → Type 0) : Type 0 where
+  pub linked : (p : Peer) (links : List End) (going : List Going) → IsSome p.contact → P p → P (record p { links = links; going = going })
+  pub reasoned : (o : Option Reason) (p : Peer) → P p → P (with_reason o p)
+  pub ended : (kind : CopyKind) (p : Peer) (m : PeerRule) → N p m → P p → P (copy_ended kind p)
+  pub freed : (p : Peer) → is_left p.engage ≡ true → P p → P (area_off p).local
+  pub steps : (y : Here) (p : Peer) (g : PeerGoing) (m : PeerRule) (w : ℕ) → peer_can y p m → N p m → P p → P (peer_effect y (record p { numbers = g }) m w).local
+
+module _ (P : Peer → Type 0) (s : ScenarioPart) (q : ℕ) where
+  abbrev pub Of : State → Type 0
+  Of st = P (peer_of st q)
+
+  past : (st : State) → Of st → length st.peers ≤ q → P (cold_peer Old)
+  past st h l = subst P (get_or_past st.peers q (cold_peer Old) l) h
+
+  module _ (z : ActsLeave P) where
+    aim_leaves : (st : State) (o : Option Aim) → Of st → Of (with_aim o st)
+    aim_leaves st None h = h
+    aim_leaves st (Some y) h = at_peer P st.peers y.partner (set_link (peer_at st.peers y.partner) y.channel y.effect.local) q (λ e. z.linked (peer_at st.peers y.partner) _ (subst (λ (j : ℕ). P (peer_at st.peers j)) e h)) h
+
+    act_leaves : (st : State) (a : Act) → Of st → Of (after_act s st a)
+    act_leaves st a h = wanted_at P (command_begun s st a) (with_aim (aimed s st a) st).peers q z.unwanted z.wanted (aim_leaves st (aimed s st a) h)
+
+    pub acts_leave : (st : State) (list : List Act) → Of st → Of (after_acts s st list)
+    acts_leave st [] h = h
+    acts_leave st (a ∷ more) h = acts_leave (after_act s st a) more (act_leaves st a h)
+
+  module _ (N : Peer → PeerRule → Type 0) (z : StepsLeave N P) where
+    answers_leave : (y : Here) (mark : Option CopyMark) (p : Peer) (m : PeerRule) (a : Answer) → peer_can y p m → N p m → P p → P (peer_answered y mark p m a).local
+    answers_leave y None p m (Word w) can n h = z.steps y p p.numbers m w can n h
+    answers_leave y (Some mark) p m (Word w) can n h = z.steps y p _ m w can n h
+    answers_leave y None p m Failed can n h = h
+    answers_leave y (Some mark) p m Failed can n h = z.ended mark.kind p m n h
+
+    read_leaves : (l b : Bool) (p : Peer) → is_left p.engage ≡ l → P p → P (if l && b then area_off p else same_peer p).local
+    read_leaves true true p e h = z.freed p e h
+    read_leaves true false p e h = h
+    read_leaves false b p e h = h
+
+    heard_leaves : (b : Bool) (w : ℕ) (p : Peer) → P p → P (if b then with_reason (Some (OtherGoingDown w)) p else p)
+    heard_leaves true w p h = z.reasoned (Some (OtherGoingDown w)) p h
+    heard_leaves false w p h = h
+
+    pub rule_leaves : (st : State) (r : Rule) (a : Answer) → Can s st r → ((m : PeerRule) → r ≡ ForPeer q m → N (peer_of st q) m) → Of st → Of (after_answer s st r a)
+    rule_leaves st (Link k d m) a can n h =
+        let g = link_answered (mark_of s st (Link k d m)) (place_for s d) (end_of st k d) m a in
+        let p = set_link (numbered (mark_of s st (Link k d m)) d (peer_of st k)) d g.local in
+        at_peer P st.peers k (with_reason g.reason p) q (λ e. z.reasoned g.reason p (z.linked (peer_of st k) _ _ can.1.0.contact (subst (λ (j : ℕ). P (peer_of st j)) e h))) h
+    rule_leaves st (ForPeer k m) a can n h =
+        let g = peer_answered (here_of s st k) (mark_of s st (ForPeer k m)) (peer_of st k) m a in
+        at_peer P st.peers k (with_reason g.reason g.local) q
+        (λ e. z.reasoned g.reason g.local (answers_leave (here_of s st k) (mark_of s st (ForPeer k m)) (peer_of st k) m a can.1.1 (subst (λ (j : ℕ). N (peer_of st j) m) e (n m (ap (λ (j : ℕ). ForPeer j m) (sym e)))) (subst (λ (j : ℕ). P (peer_of st j)) e h))) h
+    rule_leaves st (Own ReadEngaged) (Word w) can n h = at_each P (λ j p. (peer_read w j p).local) st.peers q (cold_peer Old) (read_leaves (is_left (peer_of st q).engage) (not (is_flagged w q)) (peer_of st q) refl h) (past st h)
+    rule_leaves st (Own TakeDeactivation) (Word w) can n h = at_each P (λ j p. (deactivation_heard w j p).local) st.peers q (cold_peer Old) (heard_leaves (is_some (peer_of st q).engage.echo && is_flagged w q) w (peer_of st q) h) (past st h)
+    rule_leaves st (Own ReadStamp) (Word w) can n h = h
+    rule_leaves st (Own ZeroMask) (Word w) can n h = h
+    rule_leaves st (Own ZeroOffline) (Word w) can n h = h
+    rule_leaves st (Own WriteStamp) (Word w) can n h = h
+    rule_leaves st (Own StoreMask) (Word w) can n h = h
+    rule_leaves st (Own TakeActivation) (Word w) can n h = h
+    rule_leaves st (Own m) Failed can n h = h
+
+    -- a turn's step, of which its rule is known
+    pub made_leaves : (st : State) (o : Option Marked) → MayMake s st o → ((x : Marked) (r : Rule) → o ≡ Some x → rule_of s st x.step.op x.mark ≡ Some r → (m : PeerRule) → r ≡ ForPeer q m → N (peer_of st q) m) → Of st → Of (after_step s st o)
+    made_leaves st None may n h = h
+    made_leaves st (Some x) may n h = subst (λ (o : Option Rule). Of (after_ruled s st o x.step.answer)) (sym may.decoded) (rule_leaves st may.rule x.step.answer may.can (n x may.rule refl may.decoded) h)
+
+  -- a boot begins anew
+  moment_by_leaves : (b d : Bool) (st : State) → ((p : Peer) → P (booted_peer p)) → P (cold_peer Old) → Of st → Of (moment_by s b d st)
+  moment_by_leaves true d st boots cold h = at_each P (λ j p. booted_peer p) st.peers q (cold_peer Old) (boots (peer_of st q)) (λ l. cold)
+  moment_by_leaves false true st boots cold h = h
+  moment_by_leaves false false st boots cold h = h
+
+  pub moment_leaves : (earlier : ℕ) (st : State) → ((p : Peer) → P (booted_peer p)) → P (cold_peer Old) → Of st → Of (moment s earlier st)
+  moment_leaves earlier st boots cold h = moment_by_leaves (restart_comes s earlier st && not (is_over st)) (stop_comes s earlier st && not (is_over st)) st boots cold h
+
+-- at the opening: of each partner of a link something holds, and of each other one
+module _ (P : Peer → Type 0) (s : ScenarioPart) (q : ℕ) where
+  opened : (part : ℕ) (ls : List ScenarioLink) (peers : List Peer) → ((l : ScenarioLink) (p : Peer) → P p → P (warm_peer part l p)) → P (peer_at peers q) → P (peer_at (opened_peers part ls peers) q)
+  opened part [] peers warm h = h
+  opened part (l ∷ ls) peers warm h = opened part ls (slice_set peers l.partner (warm_peer part l (peer_at peers l.partner))) warm (at_peer P peers l.partner (warm_peer part l (peer_at peers l.partner)) q (λ e. warm l (peer_at peers l.partner) (subst (λ (j : ℕ). P (peer_at peers j)) e h)) h)
+
+  unopened : (n : ℕ) (ls : List ScenarioLink) → P (base_peer ls) → P (cold_peer Old) → P (peer_at (first_peers n ls) q)
+  unfolding first_peers
+  unopened n ls base cold = by (cases_lt q n) where
+    by : (q < n) ⊎ (n ≤ q) → P (peer_at (replicate n (base_peer ls)) q)
+    by (inl l) = subst P (sym (get_or-replicate n q (base_peer ls) (cold_peer Old) l)) base
+    by (inr l) = subst P (sym (get_or_past (replicate n (base_peer ls)) q (cold_peer Old) (omega (arith, length-replicate {A = Peer} n (base_peer ls), l)))) cold
+
+  pub opened_has : ((ls : List ScenarioLink) → P (base_peer ls)) → ((l : ScenarioLink) (p : Peer) → P p → P (warm_peer s.part l p)) → P (cold_peer Old) → P (peer_of (opened_state s) q)
+  opened_has base warm cold = opened s.part s.links (first_peers s.count s.links) warm (unopened s.count s.links (base s.links) cold)
+
+  pub start_has : ((ls : List ScenarioLink) → P (base_peer ls)) → ((l : ScenarioLink) (p : Peer) → P p → P (warm_peer s.part l p)) → ((p : Peer) → P (booted_peer p)) → P (cold_peer Old) → P (peer_of (start s) q)
+  start_has base warm boots cold = moment_leaves P s q 0 (opened_state s) boots cold (opened_has base warm cold)
