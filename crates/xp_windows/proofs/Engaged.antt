@@ -304,12 +304,12 @@ pub stands_steps : StepsLeave Reads Stands
 stands_steps = record { linked = λ p links going some h. h; reasoned = reasoned; ended = λ kind p m n h. ended kind p h; freed = freed; steps = steps }
 
 -- a boot and the opening
-cold_stands : (b zeroed cleared wanted : Bool) → Engaged (record (cold_peer Old).engage { zeroed = zeroed; cleared = cleared }) None wanted
-cold_stands b zeroed cleared wanted = record { free_echo = λ a e. absurd (cc); out_echo = λ a e. absurd (cc); second = λ a e. absurd (cc); met = λ e. absurd (cc); active = λ e. absurd (cc); idle = λ e n. inl refl; free_bit = λ a. absurd (cc); old_bit = λ a. refl; wanted = λ a r. absurd (cc); back = λ e. absurd (cc) }
+pub stands_anew : (zeroed cleared wanted : Bool) → Engaged (record (cold_peer Old).engage { zeroed = zeroed; cleared = cleared }) None wanted
+stands_anew zeroed cleared wanted = record { free_echo = λ a e. absurd (cc); out_echo = λ a e. absurd (cc); second = λ a e. absurd (cc); met = λ e. absurd (cc); active = λ e. absurd (cc); idle = λ e n. inl refl; free_bit = λ a. absurd (cc); old_bit = λ a. refl; wanted = λ a r. absurd (cc); back = λ e. absurd (cc) }
 
 base_stands : (ls : List ScenarioLink) → Engaged (base_engage ls) None true
-base_stands [] = cold_stands true false false true
+base_stands [] = stands_anew false false true
 base_stands (l ∷ ls) = record { free_echo = λ a e. absurd (cc); out_echo = λ a e. absurd (cc); second = λ a e. absurd (cc); met = λ e. absurd (cc); active = λ e. absurd (cc); idle = λ e n. inl refl; free_bit = λ a. refl; old_bit = λ a. absurd (cc); wanted = λ a r. absurd (cc); back = λ e. absurd (cc) }
 
 pub stands_first : (s : ScenarioPart) (q : ℕ) → Stands (peer_of (start s) q)
-stands_first s q = moment_leaves Stands s q 0 (opened_state s) (λ p. cold_stands true false false true) (cold_stands true true true true) (opened_has (λ (p : Peer). Stands p × (p.wanted ≡ true)) s q (λ ls. (base_stands ls, refl)) (λ l p h. (record { free_echo = λ a e. absurd (cc); out_echo = λ a e. absurd (cc); second = λ a e. refl; met = λ e. (refl, refl); active = λ e. absurd (cc); idle = λ e n. absurd (cc); free_bit = λ a. absurd (cc); old_bit = λ a. absurd (cc); wanted = λ a r. h.1; back = λ e. absurd (cc) }, h.1)) (cold_stands true true true true, refl)).0
+stands_first s q = moment_leaves Stands s q 0 (opened_state s) (λ p. stands_anew false false true) (stands_anew true true true) (opened_has (λ (p : Peer). Stands p × (p.wanted ≡ true)) s q (λ ls. (base_stands ls, refl)) (λ l p h. (record { free_echo = λ a e. absurd (cc); out_echo = λ a e. absurd (cc); second = λ a e. refl; met = λ e. (refl, refl); active = λ e. absurd (cc); idle = λ e n. absurd (cc); free_bit = λ a. absurd (cc); old_bit = λ a. absurd (cc); wanted = λ a r. h.1; back = λ e. absurd (cc) }, h.1)) (stands_anew true true true, refl)).0

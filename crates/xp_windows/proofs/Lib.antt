@@ -20,3 +20,7 @@ pub mod Looks
 pub mod EndFrames
 pub mod Engaged
 pub mod Rests
+pub mod Facts
+pub mod Engages
+pub mod Replies
+pub mod Records

@@ -180,7 +180,7 @@ module _ (s : ScenarioPart) (q : ℕ) (x : Spot s.part s.count q) where
   abbrev Ask : ℕ → State → Option (Option Rule)
   Ask used st = (plan_of s).ask x.number errands.Look used st
 
-  asks_on : (used : ℕ) (st : State) → st.life ≡ Up → (used ≡ 0) ⊎ (0 < length (peer_of st q).paging) → Ask used st ≡ Some (Some (ForPeer q LookAtPage))
+  pub asks_on : (used : ℕ) (st : State) → st.life ≡ Up → (used ≡ 0) ⊎ (0 < length (peer_of st q).paging) → Ask used st ≡ Some (Some (ForPeer q LookAtPage))
   asks_on used st up h = asks s q x errands.Look used st.clock.boots st (record { up = up; boot = refl }) ∙ ap (λ (b : Bool). asked (for_peer q (step_if b LookAtPage))) (by h) where
     left : (a b : Bool) → a ≡ true → (a || b) ≡ true
     left true b e = refl
@@ -198,7 +198,7 @@ module _ (s : ScenarioPart) (q : ℕ) (x : Spot s.part s.count q) where
   mid_pages : (st : State) (t : Turn) → (peer_of (middle s st t) q).paging ≡ (peer_of st q).paging
   mid_pages st t = acts_leave (Pages (peer_of st q).paging) s q (pages_acts (peer_of st q).paging) st t.before refl
 
-  mid_tied : (v : Visit Errand) (st : State) (t : Turn) → Tied s x.number q v st → Tied s x.number q v (middle s st t)
+  pub mid_tied : (v : Visit Errand) (st : State) (t : Turn) → Tied s x.number q v st → Tied s x.number q v (middle s st t)
   mid_tied v st t (inl e) = inl (mid_pages st t ∙ e)
   mid_tied v st t (inr y) = inr (record { life = acts_life s st t.before ∙ y.life; busy = subst (λ (ws : List ℕ). Busy (plan_of s) x.number errands.Look (length ws) v) (sym (mid_pages st t)) y.busy; few = subst (λ (ws : List ℕ). length ws < 5) (sym (mid_pages st t)) y.few })
 

@@ -22,9 +22,12 @@ use Rattle.xp_protocol.specs.Peering.{Here, peer_can, peer_effect, peer_read, de
 use Rattle.xp_protocol.specs.Rules.{Can, numbered, link_answered, place_for, here_of, mark_of, peer_answered, after_answer}
 use Rattle.xp_protocol.specs.Acts.{Aim, aimed, with_aim, command_begun, unwanted, wanted_again, after_act, after_acts}
 use Rattle.xp_protocol.specs.Decode.{rule_of}
-use Rattle.xp_protocol.specs.Runs.{MayMake, MayStep, after_ruled, after_step, moment, moment_by, restart_comes, stop_comes, is_over, start}
+use Rattle.xp_protocol.specs.Runs.{May, MayMake, MayStep, after_ruled, after_step, after_turn, moment, moment_by, restart_comes, stop_comes, is_over, start}
 use Rattle.xp_protocol.proofs.Slots.{at_each, at_peer}
 use Rattle.xp_protocol.proofs.Frames.{wanted_at}
+use Rattle.xp_windows.specs.Windows.{middle, Steps, IsFor}
+use Rattle.xp_windows.specs.Visited.{rule_by, rule_made}
+use Rattle.xp_windows.proofs.Lives.{on_turn}
 
 -- acts: an end changes, and a partner isn't wanted any more or is wanted again
 pub record ActsLeave (P : Peer → Type 0) : Type 0 where
@@ -126,3 +129,59 @@ module _ (P : Peer → Type 0) (s : ScenarioPart) (q : ℕ) where
 
   pub start_has : ((ls : List ScenarioLink) → P (base_peer ls)) → ((l : ScenarioLink) (p : Peer) → P p → P (warm_peer s.part l p)) → ((p : Peer) → P (booted_peer p)) → P (cold_peer Old) → P (peer_of (start s) q)
   start_has base warm boots cold = moment_leaves P s q 0 (opened_state s) boots cold (opened_has base warm cold)
+
+-- a fact of a partner that stands until the step of this rule
+pub record Awaits (N : Peer → PeerRule → Type 0) (P : Peer → Type 0) (goal : PeerRule) : Type 0 where
+  pub acts : ActsLeave P
+  pub linked : (p : Peer) (links : List End) (going : List Going) → P p → P (record p { links = links; going = going })
+  pub reasoned : (o : Option Reason) (p : Peer) → P p → P (with_reason o p)
+  pub ended : (kind : CopyKind) (p : Peer) → P p → P (copy_ended kind p)
+  pub freed : (p : Peer) → is_left p.engage ≡ true → P p → ⊥
+  pub steps : (y : Here) (p : Peer) (g : PeerGoing) (m : PeerRule) (w : ℕ) → peer_can y p m → N p m → P p → (m ≡ goal) ⊎ P (peer_effect y (record p { numbers = g }) m w).local
+
+module _ (N : Peer → PeerRule → Type 0) (P : Peer → Type 0) (goal : PeerRule) (z : Awaits N P goal) where
+  module _ (Done : Type 0) where
+    abbrev Or : Peer → Type 0
+    Or p = Done ⊎ P p
+
+    or_map : (p r : Peer) → (P p → P r) → Or p → Or r
+    or_map p r f (inl d) = inl d
+    or_map p r f (inr h) = inr (f h)
+
+    or_freed : (p : Peer) → is_left p.engage ≡ true → Or p → Or (area_off p).local
+    or_freed p l (inl d) = inl d
+    or_freed p l (inr h) = absurd (z.freed p l h)
+
+    or_done : (m : PeerRule) (r : Peer) → (m ≡ goal → Done) → (m ≡ goal) ⊎ P r → Or r
+    or_done m r f (inl e) = inl (f e)
+    or_done m r f (inr h) = inr h
+
+    or_steps : (y : Here) (p : Peer) (g : PeerGoing) (m : PeerRule) (w : ℕ) → peer_can y p m → (m ≡ goal → Done) × N p m → Or p → Or (peer_effect y (record p { numbers = g }) m w).local
+    or_steps y p g m w can n (inl d) = inl d
+    or_steps y p g m w can n (inr h) = or_done m (peer_effect y (record p { numbers = g }) m w).local n.0 (z.steps y p g m w can n.1 h)
+
+    or_leave : StepsLeave (λ p m. (m ≡ goal → Done) × N p m) Or
+    or_leave = record {
+      linked = λ p links going some h. or_map p (record p { links = links; going = going }) (z.linked p links going) h;
+      reasoned = λ o p h. or_map p (with_reason o p) (z.reasoned o p) h;
+      ended = λ kind p m n h. or_map p (copy_ended kind p) (z.ended kind p) h;
+      freed = or_freed;
+      steps = or_steps;
+    }
+
+    or_acts : ActsLeave Or
+    or_acts = record {
+      linked = λ p links h. or_map p (record p { links = links }) (z.acts.linked p links) h;
+      unwanted = λ p h. or_map p (unwanted p) (z.acts.unwanted p) h;
+      wanted = λ p h. or_map p (wanted_again p) (z.acts.wanted p) h;
+    }
+
+  -- a turn within a boot makes the step, or leaves the fact
+  pub turn_awaits : (s : ScenarioPart) (q : ℕ) (st : State) (t : Turn) → (after_turn s st t).clock.boots ≡ st.clock.boots → May s st t → ((m : PeerRule) → rule_made s (middle s st t) t ≡ Some (ForPeer q m) → N (peer_of (middle s st t) q) m) → P (peer_of st q) → Steps (IsFor q goal) s st t ⊎ P (peer_of (after_turn s st t) q)
+  turn_awaits s q st t same may n h =
+      on_turn s st t same (λ (y : State). Or (Steps (IsFor q goal) s st t) (peer_of y q)) (λ y g. g)
+      (acts_leave (Or (Steps (IsFor q goal) s st t)) s q (or_acts (Steps (IsFor q goal) s st t)) (after_step s (middle s st t) t.made) t.after
+      (made_leaves (Or (Steps (IsFor q goal) s st t)) s q (λ p m. (m ≡ goal → Steps (IsFor q goal) s st t) × N p m) (or_leave (Steps (IsFor q goal) s st t)) (middle s st t) t.made may.made known (inr (acts_leave P s q z.acts st t.before h))))
+    where
+      known : (x : Marked) (r : Rule) → t.made ≡ Some x → rule_of s (middle s st t) x.step.op x.mark ≡ Some r → (m : PeerRule) → r ≡ ForPeer q m → (m ≡ goal → Steps (IsFor q goal) s st t) × N (peer_of (middle s st t) q) m
+      known x r f g m e = (λ i. record { step = x; made = f; rule = r; decoded = g; is = e ∙ ap (λ (k : PeerRule). ForPeer q k) i }, n m (ap (λ (o : Option Marked). rule_by s (middle s st t) o) f ∙ g ∙ ap (λ (k : Rule). Some k) e))

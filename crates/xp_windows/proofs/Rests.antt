@@ -271,6 +271,9 @@ quiet_closes o reason e h = stopped o reason e (inl h)
 pub quiet_acts : ActsKeep (λ (e : End). Quiet e.sides.pull)
 quiet_acts = acts_by (λ (e : End). Quiet e.sides.pull) (λ e y a b d h. quiet_same e y a b h) (λ reason e h. quiet_closes e.shake.reason reason e h)
 
+pub rests_acts : ActsKeep Rests
+rests_acts = acts_by Rests rests_same channel
+
 -- what is known of a step: words are copied at a connected end
 abbrev pub Copies : End → LinkRule → Type 0
 Copies e (Pull m) = is_connected e ≡ true
@@ -278,7 +281,7 @@ Copies e m = Unit {0}
 
 rests_keep : EndKeeps Copies Rests
 rests_keep = record {
-  acts = acts_by Rests rests_same channel;
+  acts = rests_acts;
   heard = λ n e h. hear_leaves (λ x y. Quiet x ⊎ (shake_connected y ≡ true)) (λ x y i. i) n e h;
   down = λ reason e i h. inl (record { counters = refl; copied = refl });
   over = λ e i h. inl (record { counters = refl; copied = refl });
@@ -398,7 +401,7 @@ module _ (c : ℕ) where
   pub cut_next : (s : ScenarioPart) (q : ℕ) (st : State) (t : Turn) → May s st t → Rests (end_of st q c) → Cut (peer_of st q) → Cut (peer_of (after_turn s st t) q)
   cut_next s q st t may r h =
       moment_leaves Cut s q st.clock.puts (turn_counted (acted s st t)) (λ p. λ e. each_quiet (λ d x. just (booted_end x)) p (record { counters = refl; copied = refl })) cold
-      (acts_cut s q (after_step s (middle s st t) t.made) t.after (made_leaves Cut s q Closes cut_keep (middle s st t) t.made may.made (λ x r' f g m i. λ j. acts_keep Rests s q c (acts_by Rests rests_same channel) st t.before r) (acts_cut s q st t.before h)))
+      (acts_cut s q (after_step s (middle s st t) t.made) t.after (made_leaves Cut s q Closes cut_keep (middle s st t) t.made may.made (λ x r' f g m i. λ j. acts_keep Rests s q c rests_acts st t.before r) (acts_cut s q st t.before h)))
     where
       cold : Cut (cold_peer Old)
       cold e = subst (λ (x : End). Quiet x.sides.pull) (sym (idle_at c)) (record { counters = refl; copied = refl })

@@ -1,11 +1,11 @@
 -- In each window what is owed is served.
-use Rattle.std.proofs.Common.{◌≡◌, ℕ, ◌+◌, ◌*◌, ◌<◌, ◌≤◌, Bool, true, false, List, [], ◌∷◌, ◌++◌, length, refl, ap, sym, ◌∙◌, subst, arith, inl, Some}
+use Rattle.std.proofs.Common.{◌≡◌, ℕ, ◌+◌, ◌*◌, ◌<◌, ◌≤◌, Bool, true, false, List, [], ◌∷◌, ◌++◌, length, refl, ap, sym, ◌∙◌, subst, arith, inl, inr, ◌⊎◌, Option, None, Some}
 use Rattle.std.specs.Prelude.{IsSome, ◌-◌, nat_lt, nat_eq, ◌||◌, if◌then◌else◌}
 use Rattle.std.proofs.lemmas.Bool.{or_left}
 use Rattle.std.proofs.lemmas.Bool.Decides.{nat_tests}
 use Rattle.xp_base.specs.declared.layout.TheConstants.{PARTS, WINDOW_PARTS, WINDOW_TURNS, WINDOW_TURNS_EACH}
 use Rattle.xp_base.specs.Windows.{window_of}
-use Rattle.xp_base.specs.History.{Turn}
+use Rattle.xp_base.specs.History.{Marked, Turn}
 use Rattle.xp_script.specs.declared.command.Command.TheVariants.{Take}
 use Rattle.xp_script.specs.declared.part.ScenarioPart.{ScenarioPart}
 use Rattle.xp_rounds.specs.declared.rounds.TheConstants.{VISIT_TURNS}
@@ -14,21 +14,35 @@ use Rattle.xp_rounds.proofs.Spots.{Spot}
 use Rattle.xp_rounds.proofs.Visits.{planned_on}
 use Rattle.xp_rounds.proofs.Sources.{Paced, planned_paced}
 use Rattle.xp_protocol.specs.Parts.{IsLawfulPart, IsPeer, script_in}
-use Rattle.xp_protocol.specs.State.{State, Booting, Up}
+use Rattle.xp_protocol.specs.State.{State, Booting, Up, End, end_of}
+use Rattle.xp_protocol.specs.Pulling.{is_copying}
+use Rattle.xp_protocol.specs.declared.rule.PullRule.{PullRule}
+use Rattle.xp_protocol.specs.declared.rule.LinkRule.TheVariants.{Ring, Pull, Acknowledge, SetFlag, ZeroGet, ZeroPut, StoreArgument, ReadArgument}
+use Rattle.xp_protocol.specs.declared.rule.PeerRule.TheVariants.{ClearEngagementBit}
+use Rattle.xp_protocol.specs.declared.rule.Rule.{Rule}
+use Rattle.xp_protocol.specs.declared.rule.Rule.TheVariants.{Link, Peer as ForPeer, Own}
+use Rattle.xp_base.specs.declared.reason.Reason.{Reason}
 use Rattle.xp_protocol.specs.Acts.{current, due}
 use Rattle.xp_protocol.proofs.Lawful.{lawful_command}
 use Rattle.xp_protocol.specs.Runs.{Runs, RunsFrom, start, after_turn, state_after}
 use Rattle.xp_plan.specs.declared.errand.Errand.{Errand}
 use Rattle.xp_plan.specs.Plan.{plan_of, IsVisit, first_visit}
 use Rattle.xp_plan.proofs.Visiting.{first_is, next_is}
-use Rattle.xp_windows.specs.Windows.{middle, begins, answers, IsUp, SomeTurn, Throughout, IsTaking, IsBooting, Owed, IsWindow, Windows}
-use Rattle.xp_windows.specs.Visited.{visit_after, FollowsFrom, ArePrompt, Visited}
+use Rattle.xp_windows.specs.Windows.{middle, begins, answers, Steps, IsFor, IsOpenTo, At, CopiesClosed, IsUp, SomeTurn, Throughout, IsTaking, IsBooting, Owed, IsWindow, Windows}
+use Rattle.xp_windows.specs.Visited.{rule_by, rule_made, visit_after, FollowsFrom, ArePrompt, Visited}
 use Rattle.xp_windows.proofs.Places.{Turns, follows_plan, first_holds, placed, peer_placed}
 use Rattle.xp_windows.proofs.Throughout.{activations_taken, deactivations_taken, engagements_read, flags_taken, sends_made}
 use Rattle.xp_windows.proofs.Signals.{requests_made, gets_stored}
 use Rattle.xp_windows.proofs.Copies.{whole, copies_made}
 use Rattle.xp_windows.proofs.Takes.{takes_made}
 use Rattle.xp_windows.proofs.Leaves.{areas_closed, partners_told}
+use Rattle.xp_windows.proofs.Planned.{planned_by}
+use Rattle.xp_windows.proofs.Frame.{connected_by}
+use Rattle.xp_windows.proofs.Rests.{Rests}
+use Rattle.xp_windows.proofs.Facts.{Facts, facts_next, facts_first, none_copying}
+use Rattle.xp_windows.proofs.Engages.{bits_set}
+use Rattle.xp_windows.proofs.Replies.{bits_cleared, echoes_stored, seconds_stored}
+use Rattle.xp_windows.proofs.Records.{records_read}
 use Rattle.xp_windows.proofs.Looks.{Tied, tied_next, tied_first, looks_made}
 use Rattle.xp_windows.proofs.Boots.{AtBoot, boot_kept, boot_over, left_few}
 use Rattle.xp_windows.proofs.Peers.{begun_all, turns_all}
@@ -42,6 +56,7 @@ record Going (s : ScenarioPart) (v : Visit Errand) (st : State) (ts : List Turn)
   prompt : ArePrompt s st ts
   boot : st.life ≡ Booting → AtBoot v
   tied : (q : ℕ) (x : Spot s.part s.count q) → Tied s x.number q v st
+  facts : Facts st
 
 -- the first visit of a boot is paced
 fresh_paced : (s : ScenarioPart) → Paced (plan_of s) (whole s) (first_visit s)
@@ -60,13 +75,13 @@ paced_on s v st t h = by (nat_eq (after_turn s st t).clock.boots st.clock.boots)
   by false = fresh_paced s
 
 next : (s : ScenarioPart) (v : Visit Errand) (st : State) (t : Turn) (ts : List Turn) → IsLawfulPart s → Going s v st (t ∷ ts) → Going s (visit_after s v st t) (after_turn s st t) ts
-next s v st t ts l x = record { visit = visit_on s v st t l x.visit; paced = paced_on s v st t x.paced; runs = x.runs.1; follows = x.follows.1; prompt = x.prompt.1; boot = boot_kept s v st t x.visit.ring x.boot; tied = λ q y. tied_next s q y v st t x.paced x.runs.0 x.follows.0 (x.tied q y) }
+next s v st t ts l x = record { visit = visit_on s v st t l x.visit; paced = paced_on s v st t x.paced; runs = x.runs.1; follows = x.follows.1; prompt = x.prompt.1; boot = boot_kept s v st t x.visit.ring x.boot; tied = λ q y. tied_next s q y v st t x.paced x.runs.0 x.follows.0 (x.tied q y); facts = facts_next s v st t x.paced x.runs.0 x.follows.0 x.facts }
 
 cut : (s : ScenarioPart) (v : Visit Errand) (st : State) (window after : List Turn) → IsLawfulPart s → Going s v st (window ++ after) → Going s v st window
-cut s v st [] after l x = record { visit = x.visit; paced = x.paced; runs = tt; follows = tt; prompt = tt; boot = x.boot; tied = x.tied }
+cut s v st [] after l x = record { visit = x.visit; paced = x.paced; runs = tt; follows = tt; prompt = tt; boot = x.boot; tied = x.tied; facts = x.facts }
 cut s v st (t ∷ ts) after l x =
     let y = cut s (visit_after s v st t) (after_turn s st t) ts after l (next s v st t (ts ++ after) l x) in
-    record { visit = x.visit; paced = x.paced; runs = (x.runs.0, y.runs); follows = (x.follows.0, y.follows); prompt = (x.prompt.0, y.prompt); boot = x.boot; tied = x.tied }
+    record { visit = x.visit; paced = x.paced; runs = (x.runs.0, y.runs); follows = (x.follows.0, y.follows); prompt = (x.prompt.0, y.prompt); boot = x.boot; tied = x.tied; facts = x.facts }
 
 record Window (s : ScenarioPart) (st : State) (window : List Turn) : Type 0 where
   visit : Visit Errand
@@ -88,6 +103,42 @@ first_answers s st (t ∷ ts) some p h = inl (p.0.answers h)
 taken_peer : (s : ScenarioPart) (st : State) (q c : ℕ) (wait : Bool) → IsLawfulPart s → current s st ≡ Some (Take q c wait) → IsPeer s.part s.count q c
 taken_peer s st q c wait l e = lawful_command s st.clock.boots (st.script.begun - 1) (Take q c wait) l e
 
+-- no word of a channel is copied while it closes
+closed_rests : (e : End) → Rests e → IsSome e.shake.reason → is_copying e.sides.pull ≡ false
+closed_rests e (inl h) some = none_copying e.sides.pull h
+closed_rests e (inr on) some = absurd (reasoned e.shake.reason (connected_by e on).2 some) where
+  reasoned : (o : Option Reason) → o ≡ None → IsSome o → ⊥
+  reasoned None e h = cc
+  reasoned (Some r) e h = absurd (cc)
+
+copied_closed : (st : State) (q c : ℕ) (r : Rule) → At q c CopiesClosed st r → (m : PullRule) × (r ≡ Link q c (Pull m)) × IsSome (end_of st q c).shake.reason
+copied_closed st q c (Link k d (Pull m)) h = (m, ap (λ (j : ℕ). Link j d (Pull m)) h.0 ∙ ap (λ (j : ℕ). Link q j (Pull m)) h.1, h.2)
+copied_closed st q c (Link k d (Ring m)) h = absurd h.2
+copied_closed st q c (Link k d Acknowledge) h = absurd h.2
+copied_closed st q c (Link k d (SetFlag kind)) h = absurd h.2
+copied_closed st q c (Link k d ZeroGet) h = absurd h.2
+copied_closed st q c (Link k d ZeroPut) h = absurd h.2
+copied_closed st q c (Link k d (StoreArgument y)) h = absurd h.2
+copied_closed st q c (Link k d (ReadArgument y)) h = absurd h.2
+copied_closed st q c (ForPeer k m) h = absurd h
+copied_closed st q c (Own m) h = absurd h
+
+not_closed : (s : ScenarioPart) (q c : ℕ) (v : Visit Errand) (st : State) (t : Turn) → Paced (plan_of s) (whole s) v → rule_made s (middle s st t) t ≡ (planned (plan_of s) v (middle s st t)).rule → Steps (At q c CopiesClosed) s st t → ⊥
+not_closed s q c v st t paced e y =
+    let z = copied_closed (middle s st t) q c y.rule y.is in
+    let ruled = sym e ∙ ap (λ (o : Option Marked). rule_by s (middle s st t) o) y.made ∙ y.decoded ∙ ap (λ (r : Rule). Some r) z.1 in
+    let on = (planned_by s v (middle s st t) (Link q c (Pull z.0)) paced ruled).meant in
+    not_reasoned (end_of (middle s st t) q c).shake.reason (connected_by (end_of (middle s st t) q c) on).2 z.2
+  where
+    not_reasoned : (o : Option Reason) → o ≡ None → IsSome o → ⊥
+    not_reasoned None e h = cc
+    not_reasoned (Some r) e h = absurd (cc)
+
+none_closing : (s : ScenarioPart) (q c : ℕ) (v : Visit Errand) (st : State) (ts : List Turn) → IsLawfulPart s → Going s v st ts → SomeTurn (Steps (At q c CopiesClosed) s) s st ts → ⊥
+none_closing s q c v st [] l x h = h
+none_closing s q c v st (t ∷ ts) l x (inl h) = not_closed s q c v st t x.paced x.follows.0 h
+none_closing s q c v st (t ∷ ts) l x (inr h) = none_closing s q c (visit_after s v st t) (after_turn s st t) ts l (next s v st t ts l x) h
+
 owed : (s : ScenarioPart) (boot : ℕ) (st : State) (window : List Turn) → IsLawfulPart s → VISIT_TURNS * s.count + VISIT_TURNS + 1 < length window → Throughout (IsUp boot) s st window → Window s st window → Owed s st window
 owed s boot st window l long up w =
     let x = w.turns in
@@ -100,6 +151,13 @@ owed s boot st window l long up w =
       activations = activations_taken boot s some w.visit st window enough y;
       deactivations = deactivations_taken boot s some w.visit st window enough y;
       looks = λ q p. let z = placed s q l p in looks_made s q z boot w.visit st window enough y x.paced (x.tied q z);
+      engages = λ q p h. let z = placed s q l p in bits_set boot s q z w.visit st window enough y x.paced x.facts (x.tied q z) h;
+      records = λ q p h. let z = placed s q l p in records_read boot s q z w.visit st window enough y x.paced x.facts (x.tied q z) h;
+      backs_off = λ q p active back h. let z = placed s q l p in bits_cleared boot (IsOpenTo q) s q z (λ a b. b.free) (Steps (IsFor q ClearEngagementBit) s) w.visit st window (λ a b t us d e f. f) enough y x.paced x.facts (x.tied q z) h active back;
+      echoes = λ q p read echo h. let z = placed s q l p in echoes_stored boot s q z w.visit st window enough y x.paced x.facts (x.tied q z) h read echo;
+      seconds = λ q p echo none h. let z = placed s q l p in seconds_stored boot s q z w.visit st window enough y x.paced x.facts (x.tied q z) h echo none;
+      closing = λ q c. none_closing s q c w.visit st window l x;
+      over = λ q c reason. closed_rests (end_of st q c) (x.facts.rests q c) reason;
       engagements = λ h. engagements_read boot s some w.visit st window enough y h;
       flags = λ q p h. flags_taken boot s q (placed s q l p) w.visit st window enough y h;
       requests = λ q c p owes h. requests_made boot s q c (peer_placed s q c l p) p.2 w.visit st window enough y h owes;
@@ -133,7 +191,7 @@ record Reached (s : ScenarioPart) (st : State) (window : List Turn) : Type 0 whe
 
 reached : (s : ScenarioPart) (ts : List Turn) (st : State) (window : List Turn) → IsLawfulPart s → Runs s ts → Visited s ts → IsWindow s ts st window → Reached s st window
 reached s ts st window l runs v w =
-    let x : Going s (first_visit s) (start s) ts = record { visit = first_is s l; paced = fresh_paced s; runs = runs; follows = v.follows; prompt = v.prompt; boot = λ e. inl refl; tied = λ q y. tied_first s y.number q } in
+    let x : Going s (first_visit s) (start s) ts = record { visit = first_is s l; paced = fresh_paced s; runs = runs; follows = v.follows; prompt = v.prompt; boot = λ e. inl refl; tied = λ q y. tied_first s y.number q; facts = facts_first s } in
     let y = subst (λ (us : List Turn). Going s (first_visit s) (start s) us) w.turns x in
     let few = long_window s.count l.count in
     let n = w.long in

@@ -11,14 +11,17 @@ use Rattle.xp_protocol.specs.declared.rule.LinkRule.{LinkRule}
 use Rattle.xp_protocol.specs.declared.rule.LinkRule.TheVariants.{Ring, Pull, Acknowledge, SetFlag}
 use Rattle.xp_protocol.specs.declared.rule.PullRule.TheVariants.{ReadCounters, ReadEntry}
 use Rattle.xp_protocol.specs.declared.rule.PeerRule.{PeerRule}
-use Rattle.xp_protocol.specs.declared.rule.PeerRule.TheVariants.{TakeFlags, CloseArea, LookAtPage, TellPartner}
+use Rattle.xp_protocol.specs.declared.rule.PeerRule.TheVariants.{TakeFlags, CloseArea, SetEngagementBit, ReadRecord, StoreEcho, StoreSecond, ClearEngagementBit, LookAtPage, TellPartner}
 use Rattle.xp_protocol.specs.declared.rule.OwnRule.{OwnRule}
 use Rattle.xp_protocol.specs.declared.rule.OwnRule.TheVariants.{TakeActivation, TakeDeactivation, ReadEngaged}
 use Rattle.xp_protocol.specs.declared.rule.Rule.{Rule}
 use Rattle.xp_protocol.specs.declared.rule.Rule.TheVariants.{Link, Peer as ForPeer, Own}
 use Rattle.xp_protocol.specs.Parts.{IsPeer, script_in}
 use Rattle.xp_protocol.specs.State.{State, Booting, Up, Ready, Leaving, Peer, End, end_of, peer_of, is_connected}
-use Rattle.xp_protocol.specs.Rules.{IsPartner}
+use Rattle.xp_protocol.specs.declared.contact.PartnerState.TheVariants.{Activating}
+use Rattle.xp_protocol.specs.Pulling.{is_copying}
+use Rattle.xp_protocol.specs.Peering.{HasWaited, is_good}
+use Rattle.xp_protocol.specs.Rules.{IsPartner, here_of}
 use Rattle.xp_protocol.specs.Decode.{rule_of}
 use Rattle.xp_protocol.specs.Acts.{current, due, after_acts}
 use Rattle.xp_protocol.specs.Runs.{start, after_step, after_turn, state_after}
@@ -95,6 +98,24 @@ pub record IsBooting (number : ℕ) (st : State) : Type 0 where
 pub record IsMet (q : ℕ) (st : State) : Type 0 where
   pub contact : IsSome (peer_of st q).contact
   pub ready : (peer_of st q).engage.area ≡ Ready
+  pub free : (peer_of st q).engage.reason ≡ None
+
+-- the own memory stands open to a partner, and no reason to deactivate it stands
+pub record IsOpenTo (q : ℕ) (st : State) : Type 0 where
+  pub ready : (peer_of st q).engage.area ≡ Ready
+  pub free : (peer_of st q).engage.reason ≡ None
+
+-- a partner is to be engaged: its page is good, and the own bit isn't set at it and was cleared long
+-- enough ago
+pub record IsOffered (s : ScenarioPart) (q : ℕ) (st : State) : Type 0 where
+  pub open_to : IsOpenTo q st
+  pub good : is_good (peer_of st q).look ≡ true
+  pub out : (peer_of st q).engage.bit ≡ false
+  pub waited : HasWaited (here_of s st q).wait (here_of s st q).turn (peer_of st q).engage.cleared_at
+
+-- the own bit is set at a partner that isn't in contact, and no reason to deactivate it stands
+pub record IsActivating (q : ℕ) (st : State) : Type 0 where
+  pub state : (peer_of st q).engage.state ≡ Activating
   pub free : (peer_of st q).engage.reason ≡ None
 
 -- a channel is connected
@@ -178,6 +199,19 @@ BeginsLook p after = p.paging ≡ []
 abbrev pub EndsLook : Peer → Peer → Type 0
 EndsLook p after = after.paging ≡ []
 
+-- the same of a copy of the partner's record: it is over with its last word, one that is refused, or
+-- a load that fails
+abbrev pub BeginsRecord : Peer → Peer → Type 0
+BeginsRecord p after = p.engage.reading ≡ None
+
+abbrev pub EndsRecord : Peer → Peer → Type 0
+EndsRecord p after = after.engage.reading ≡ None
+
+-- a word of a copy of a channel is loaded while the channel closes
+abbrev pub CopiesClosed : End → LinkRule → Type 0
+CopiesClosed e (Pull m) = IsSome e.shake.reason
+CopiesClosed e m = ⊥
+
 -- what is owed of the turns of a window that begins in this state
 pub record Owed (s : ScenarioPart) (st : State) (window : List Turn) : Type 0 where
   pub begins : st.script.doing ≡ false →
@@ -191,6 +225,22 @@ pub record Owed (s : ScenarioPart) (st : State) (window : List Turn) : Type 0 wh
       SomeFrom (Changes BeginsLook LookAtPage s q) (Changes EndsLook LookAtPage s q) s st window
   pub engagements : Throughout (IsLeft s) s st window →
       SomeTurn (Steps (IsOwn ReadEngaged) s) s st window
+  pub engages : (q : ℕ) → IsPartner s q → Throughout (IsOffered s q) s st window →
+      SomeTurn (Steps (IsFor q SetEngagementBit) s) s st window
+  pub records : (q : ℕ) → IsPartner s q → Throughout (IsActivating q) s st window →
+      SomeFrom (Changes BeginsRecord ReadRecord s q) (Changes EndsRecord ReadRecord s q) s st window
+  pub backs_off : (q : ℕ) → IsPartner s q → (peer_of st q).engage.state ≡ Activating →
+      (peer_of st q).engage.back_off ≡ true → Throughout (IsOpenTo q) s st window →
+      SomeTurn (Steps (IsFor q ClearEngagementBit) s) s st window
+  pub echoes : (q : ℕ) → IsPartner s q → IsSome (peer_of st q).engage.read →
+      (peer_of st q).engage.echo ≡ None → Throughout (IsActivating q) s st window →
+      SomeTurn (Steps (IsFor q StoreEcho) s) s st window
+  pub seconds : (q : ℕ) → IsPartner s q → IsSome (peer_of st q).engage.echo →
+      (peer_of st q).engage.second ≡ false → Throughout (IsOpenTo q) s st window →
+      SomeTurn (Steps (IsFor q StoreSecond) s) s st window
+  pub closing : (q c : ℕ) → SomeTurn (Steps (At q c CopiesClosed) s) s st window → ⊥
+  pub over : (q c : ℕ) → IsSome (end_of st q c).shake.reason →
+      is_copying (end_of st q c).sides.pull ≡ false
   pub flags : (q : ℕ) → IsPartner s q → Throughout (IsMet q) s st window →
       SomeTurn (Steps (TakesFlags q) s) s st window
   pub requests : (q c : ℕ) → IsPeer s.part s.count q c →
