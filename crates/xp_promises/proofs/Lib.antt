@@ -32,3 +32,4 @@ mod Witness
 mod Widest
 mod RunWitness
 pub mod Versions
+pub mod Known

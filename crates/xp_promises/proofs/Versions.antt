@@ -27,7 +27,7 @@ use Rattle.xp_meetings.proofs.Parts.{Part}
 use Rattle.xp_meetings.proofs.Words.{Words}
 use Rattle.xp_promises.proofs.Before.{whole}
 
-version_kept : (su : ScenarioPart) (st : State) (r : Rule) (w : Words) (q : ℕ) → does_rule su st r w q (Open VERSION_AT) ≡ w q (Open VERSION_AT)
+pub version_kept : (su : ScenarioPart) (st : State) (r : Rule) (w : Words) (q : ℕ) → does_rule su st r w q (Open VERSION_AT) ≡ w q (Open VERSION_AT)
 version_kept su st (Link k c (Ring ReadGet)) w q = refl
 version_kept su st (Link k c (Ring (WriteEntryWord f))) w q = refl
 version_kept su st (Link k c (Ring AcceptMessage)) w q = refl

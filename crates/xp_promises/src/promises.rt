@@ -5,6 +5,7 @@ ghost use Rattle.xp_base.specs.Memory.{Memory};
 ghost use Rattle.xp_script.specs.declared.scenario.Scenario.{Scenario};
 ghost use Rattle.xp_script.specs.Lawful.{IsLawful};
 ghost use Rattle.xp_protocol.specs.Reached.{ReachedWords};
+ghost use Rattle.xp_promises.specs.Known.{VersionsAgree, VersionsKnown};
 ghost use Rattle.xp_protocol.specs.Promised.{FlagsInOrder, Guarded, KeepsPromises, NothingRefused, Notices, Reuse, VersionsStand, Withdraws};
 
 /// Whatever history the rules reach in a lawful scenario: what was taken at an end in a connection
@@ -66,4 +67,13 @@ pub fn notices_told()
 pub fn versions_stand()
     ensures { (s : Scenario) → IsLawful s →
         (h : List Event) (m : Memory) → ReachedWords s h m → VersionsStand s m }
+{}
+
+/// Whatever history the rules reach in a lawful scenario: a partition in contact with another knows
+/// whether both versions have entries of several lines, and so both know the same.
+pub fn versions_known()
+    ensures known { (s : Scenario) → IsLawful s →
+        (h : List Event) (m : Memory) → ReachedWords s h m → VersionsKnown s h }
+    ensures agree { (s : Scenario) → IsLawful s →
+        (h : List Event) (m : Memory) → ReachedWords s h m → VersionsAgree s h }
 {}
