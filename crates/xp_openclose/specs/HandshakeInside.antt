@@ -1,14 +1,17 @@
 -- How the fields of a handshake stand for what it knows: one for one.
 use Rattle.xp_protocol.specs.State.{Shake}
 use Rattle.xp_openclose.specs.declared.handshake.Handshake.TheInside.{Inside}
-use Rattle.xp_openclose.specs.Planned.{InOrder}
+use Rattle.xp_openclose.specs.Planned.{InOrder, HasSizes}
 
 abbrev pub view_of : Inside → Shake
 view_of x = record {
   meet = x.meet;
+  both_new = x.both_new;
   sent = x.sent;
   got = x.got;
   reason = x.reason;
+  own_size = x.own_size;
+  their_size = x.their_size;
   taken = x.taken;
   request = x.request;
   reply = x.reply;
@@ -21,5 +24,6 @@ view_of x = record {
   code_put = x.code_put;
 }
 
-abbrev pub IsSound : Inside → Type 0
-IsSound x = InOrder x.sent
+pub record IsSound (x : Inside) : Type 0 where
+  pub order : InOrder x.sent
+  pub sizes : HasSizes (view_of x)
