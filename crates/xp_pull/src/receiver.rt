@@ -4,6 +4,7 @@ ghost use Rattle.std.specs.Prelude.{◌≡◌, ℕ, ◌+◌, ◌-◌, ◌*◌, �
 ghost use Rattle.xp_protocol.specs.Parts.{IsRequestSize};
 ghost use Rattle.xp_protocol.specs.Wanting.{wanted_at};
 ghost use Rattle.xp_protocol.specs.Pulling.{new_pulling, take_due, pull_can, pull_row, pull_effect, pull_failed, pull_closed, get_pulled, put_pulled, entry_pulled, is_copying, run_now, words_each, run_fault, run_bodies, entry_fault};
+ghost use Rattle.xp_protocol.specs.Linking.{copies_over};
 ghost use Rattle.xp_pull.specs.Planned.{sender_counters, pull_plan, has_message, has_entry, taken_side, kind_of};
 ghost use Rattle.xp_pull.specs.Outcome.{outcome, reason_or, heard_notes, heard_of, refusal_notes};
 ghost use Rattle.xp_pull.specs.Cached.{IsFitting, AreFitting};
@@ -362,16 +363,13 @@ impl Receiver {
 }
 
 impl Receiver {
-    /// The partner's queue has this size in the epoch that is opened.
-    pub fn resize(&mut self, size: Size)
-        requires { IsRequestSize size.entries size.limit }
-        ensures { self.new ≡ record self.old
-            { entries = size.entries; limit = size.limit; copied = []; run = 0 } }
+    /// Each copy that goes on is over, and yields nothing; all else stays.
+    pub fn end_copies(&mut self)
+        ensures { self.new ≡ copies_over self.old }
     {
-        self.copied = RunWords::new();
+        self.counters = None;
+        self.copied.clear();
         self.run = 0;
-        self.entries = size.entries;
-        self.limit = size.limit;
     }
 
     /// The size of the partner's queue.

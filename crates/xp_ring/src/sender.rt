@@ -122,14 +122,6 @@ impl Sender {
         self.written_words = 0;
     }
 
-    /// The own queue has this size in the epoch that is opened: the side begins anew.
-    pub fn resize(&mut self, size: Size)
-        requires { IsRequestSize size.entries size.limit }
-        ensures { self.new ≡ new_sending size.entries size.limit }
-    {
-        *self = Sender::new(size.entries, size.limit);
-    }
-
     /// The step that the send in progress makes next.
     pub fn plan(&self) -> Option<RingRule>
         ensures value { result ≡ send_plan self.now }

@@ -1,10 +1,11 @@
 -- What fits stays so.
-use Rattle.std.proofs.Common.{◌≡◌, ℕ, ◌+◌, ◌≤◌, Bool, List, [], ◌∷◌, arith, Option, Some, None, ◌∙◌, length-append}
+use Rattle.std.proofs.Common.{◌≡◌, ℕ, ◌+◌, ◌≤◌, Bool, List, [], ◌∷◌, arith, Option, Some, None, ◌∙◌, sym, length-append}
 use Rattle.std.proofs.lemmas.Bool.Decides.{nat_tests}
 use Rattle.xp_protocol.specs.declared.rule.PullRule.{PullRule}
 use Rattle.xp_protocol.specs.declared.rule.PullRule.TheVariants.{ReadCounters, ReadEntry}
-use Rattle.xp_protocol.specs.Pulling.{Pulling, SenderCounters, pull_effect, pull_failed, counters_pulled, take_due, found_by, found}
+use Rattle.xp_protocol.specs.Pulling.{Pulling, SenderCounters, new_pulling, pull_effect, pull_failed, counters_pulled, take_due, found_by, found}
 use Rattle.xp_protocol.specs.Releasing.{Releasing}
+use Rattle.xp_protocol.specs.Linking.{copies_over}
 use Rattle.xp_protocol.specs.Parts.{IsRequestSize}
 use Rattle.xp_pull.specs.Planned.{kind_of, taken_side}
 use Rattle.xp_sides.specs.Viewed.{Fits, held_after}
@@ -35,5 +36,8 @@ fits_taken x r h = by x.take where
   by None = h
   by (Some wait) = queue x.empty x.cache
 
-pub fits_sized : (x : Pulling) (r : Releasing) (n limit : ℕ) → IsRequestSize n limit → Fits x r → Fits (record x { entries = n; limit = limit }) r
-fits_sized x r n limit z h = record { held = h.held; few = z.1; put = h.put }
+pub fits_new : (x : Pulling) (r : Releasing) (n limit : ℕ) → IsRequestSize n limit → x.taken ≡ 0 → Fits x r → Fits (new_pulling n limit) r
+fits_new x r n limit z t h = record { held = sym t ∙ h.held; few = z.1; put = omega arith }
+
+pub fits_over : (x : Pulling) (r : Releasing) → Fits x r → Fits (copies_over x) r
+fits_over x r h = record { held = h.held; few = h.few; put = h.put }

@@ -5,10 +5,10 @@ ghost use Rattle.xp_base.specs.declared.layout.TheConstants.{LINES};
 ghost use Rattle.xp_protocol.specs.Parts.{IsRequestSize};
 ghost use Rattle.xp_protocol.specs.Wanting.{wanted_at};
 ghost use Rattle.xp_protocol.specs.Sending.{new_sending, ring_can, ring_row, ring_effect, send_closed, with_remote_get, payload_of, wants_notice};
-ghost use Rattle.xp_protocol.specs.Pulling.{pull_can, pull_row, pull_effect, pull_failed, pull_closed, take_due, is_copying};
+ghost use Rattle.xp_protocol.specs.Pulling.{new_pulling, pull_can, pull_row, pull_effect, pull_failed, pull_closed, take_due, is_copying};
 ghost use Rattle.xp_protocol.specs.Releasing.{is_held, message_released};
 ghost use Rattle.xp_protocol.specs.Acts.{below, first_number};
-ghost use Rattle.xp_protocol.specs.Linking.{sender_counters, asked_more};
+ghost use Rattle.xp_protocol.specs.Linking.{sender_counters, asked_more, copies_over};
 ghost use Rattle.xp_ring.specs.Planned.{send_plan};
 ghost use Rattle.xp_ring.specs.Outcome.{outcome as send_outcome, answer_notes, answer_of};
 ghost use Rattle.xp_pull.specs.Planned.{pull_plan, kind_of, taken_side, has_message, has_entry};
@@ -310,33 +310,31 @@ impl Sides {
         }
     }
 
-    /// With the open request the own queue has the size of the registration.
-    pub fn size_own(&mut self, size: Size)
-        requires size { IsRequestSize size.entries size.limit }
+    /// Both sides are made anew, for an own queue and a partner's queue of these sizes, where no
+    /// message was taken and no number waits for a notice.
+    #[tactic(auto, using(crate::proofs::Fitting::fits_new))]
+    #[inline(never)]
+    pub fn open(&mut self, own: Size, theirs: Size)
+        requires own { IsRequestSize own.entries own.limit }
+        requires theirs { IsRequestSize theirs.entries theirs.limit }
+        requires untaken { self.old.sides.pull.taken ≡ 0 }
         requires none { self.old.sides.pending_notices ≡ [] }
-        ensures { self.new ≡ record self.old
-            { sides = record self.old.sides { send = new_sending size.entries size.limit } } }
-    {
-        match &mut self.there {
-            Some(there) => there.send.resize(size),
-            None => self.own = size,
-        }
-    }
-
-    /// With the partner's open request its queue has the size that is asked for.
-    #[tactic(auto, using(crate::proofs::Fitting::fits_sized))]
-    pub fn size_theirs(&mut self, size: Size)
-        requires { IsRequestSize size.entries size.limit }
         ensures { self.new ≡ record self.old {
           sides = record self.old.sides {
-            pull = record self.old.sides.pull
-                { entries = size.entries; limit = size.limit; copied = []; run = 0 };
+            send = new_sending own.entries own.limit;
+            pull = new_pulling theirs.entries theirs.limit;
           };
         } }
     {
         match &mut self.there {
-            Some(there) => there.pull.resize(size),
-            None => self.theirs = size,
+            Some(there) => {
+                there.send = Sender::new(own.entries, own.limit);
+                there.pull = Receiver::new(theirs.entries, theirs.limit);
+            }
+            None => {
+                self.own = own;
+                self.theirs = theirs;
+            }
         }
     }
 
@@ -412,6 +410,18 @@ impl Sides {
         match &mut self.there {
             Some(there) => there.pull.close(reason),
             None => None,
+        }
+    }
+
+    /// Each copy that goes on is over, and yields nothing.
+    #[tactic(auto, using(crate::proofs::Fitting::fits_over))]
+    pub fn end_copies(&mut self)
+        ensures { self.new ≡ record self.old
+            { sides = record self.old.sides { pull = copies_over self.old.sides.pull } } }
+    {
+        match &mut self.there {
+            Some(there) => there.pull.end_copies(),
+            None => {}
         }
     }
 
@@ -599,7 +609,7 @@ impl Sides {
         }
     }
 
-    /// The limits of this epoch: the own one, and the partner's.
+    /// The limit of the own queue.
     pub fn own_limit(&self) -> u16
         ensures { result ≡ self.now.sides.send.limit }
     {
@@ -607,22 +617,6 @@ impl Sides {
             Some(there) => there.send.size().limit,
             None => self.own.limit,
         }
-    }
-
-    pub fn their_limit(&self) -> u16
-        ensures { result ≡ self.now.sides.pull.limit }
-    {
-        match &self.there {
-            Some(there) => there.pull.size().limit,
-            None => self.theirs.limit,
-        }
-    }
-
-    /// Whether the limits of both queues are equal.
-    pub fn has_equal_limits(&self) -> bool
-        ensures { result ≡ nat_eq self.now.sides.send.limit self.now.sides.pull.limit }
-    {
-        self.own_limit() == self.their_limit()
     }
 
     /// Whether a release waits for the store of get.
