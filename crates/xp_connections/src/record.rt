@@ -151,6 +151,7 @@ impl Record {
     pub fn is_roomy(&self) -> bool
         ensures calls { result ≡ true → TURN_ROOM ≤ self.now.calls }
         ensures ends { result ≡ true → LINES ≤ self.now.ends }
+        ensures no { TURN_ROOM ≤ self.now.calls → LINES ≤ self.now.ends → result ≡ true }
     {
         self.calls >= TURN_ROOM && self.ends >= LINES
     }

@@ -136,6 +136,7 @@ impl Records {
     pub fn is_roomy(&self) -> bool
         ensures calls { result ≡ true → TURN_ROOM ≤ self.now.calls }
         ensures ends { result ≡ true → LINES ≤ self.now.ends }
+        ensures no { TURN_ROOM ≤ self.now.calls → LINES ≤ self.now.ends → result ≡ true }
     {
         match self.list.last() {
             Some(newest) => newest.is_roomy(),
