@@ -40,17 +40,25 @@ never false h k = cc
 
 -- where a control flag is sent that is owed
 pub sent_sizes : (k : Kind) (o : Option Size) (copying : Bool) (x : Shake) → is_control k ≡ true → owed_by k (is_some o) copying x ≡ true → IfSome o (λ z. IsRequestSize z.entries z.limit) → InOrder x.sent → HasSizes x → InOrder (also k x.sent) × HasSizes (sent_with k o x)
-sent_sizes CloseRequest o copying x c w z i h = (record { reply = i.reply; complete = i.complete }, record { own = h.own; theirs = h.theirs; got = h.got; both = h.both; limit = h.limit })
-sent_sizes CloseReply o copying x c w z i h = (record { reply = i.reply; complete = i.complete }, record { own = h.own; theirs = h.theirs; got = h.got; both = h.both; limit = h.limit })
+sent_sizes CloseRequest o copying x c w z i h = (record { reply = i.reply; complete = i.complete; close = λ r. refl }, record { own = h.own; theirs = h.theirs; got = h.got; both = h.both; limit = h.limit })
+sent_sizes CloseReply o copying x c w z i h = (record { reply = i.reply; complete = i.complete; close = λ r. left_true x.sent.close_request _ w }, record { own = h.own; theirs = h.theirs; got = h.got; both = h.both; limit = h.limit })
 sent_sizes OpenRequest o copying x c w z i h =
     let unsent : x.sent.open_reply ≡ true → ⊥ = λ r. never x.sent.open_request (right_true (not (is_some x.reason)) _ (right_true (is_some o) _ w)) (i.reply r) in
-    (record { reply = λ r. refl; complete = i.complete }, record { own = λ r. lawful o (left_true (is_some o) _ w) z; theirs = h.theirs; got = h.got; both = h.both; limit = λ r. absurd (unsent r) })
+    (record { reply = λ r. refl; complete = i.complete; close = i.close }, record { own = λ r. lawful o (left_true (is_some o) _ w) z; theirs = h.theirs; got = h.got; both = h.both; limit = λ r. absurd (unsent r) })
 sent_sizes OpenReply o copying x c w z i h =
     let there = left_true (is_some (agreed x)) _ (right_true (not (is_some x.reason)) _ w) in
     let requests = agreed_there x there in
-    (record { reply = λ r. requests.0; complete = λ r. refl }, record { own = h.own; theirs = h.theirs; got = λ r. requests.1; both = λ r. h.theirs requests.1 (no_reason x.reason (left_true (not (is_some x.reason)) _ w)); limit = λ r. there })
-sent_sizes OpenComplete o copying x c w z i h = (record { reply = i.reply; complete = λ r. left_true x.sent.open_reply _ (right_true (not (is_some x.reason)) _ w) }, record { own = h.own; theirs = h.theirs; got = h.got; both = h.both; limit = h.limit })
+    (record { reply = λ r. requests.0; complete = λ r. refl; close = i.close }, record { own = h.own; theirs = h.theirs; got = λ r. requests.1; both = λ r. h.theirs requests.1 (no_reason x.reason (left_true (not (is_some x.reason)) _ w)); limit = λ r. there })
+sent_sizes OpenComplete o copying x c w z i h = (record { reply = i.reply; complete = λ r. left_true x.sent.open_reply _ (right_true (not (is_some x.reason)) _ w); close = i.close }, record { own = h.own; theirs = h.theirs; got = h.got; both = h.both; limit = h.limit })
 sent_sizes MsgRequest o copying x c w z i h = absurd (cc)
+
+pub sent_closing : (k : Kind) (registered copying : Bool) (x : Shake) → owed_by k registered copying x ≡ true → (x.sent.close_request ≡ true → is_some x.reason ≡ true) → (also k x.sent).close_request ≡ true → is_some x.reason ≡ true
+sent_closing CloseRequest registered copying x w h r = left_true (is_some x.reason) _ w
+sent_closing CloseReply registered copying x w h r = h r
+sent_closing OpenRequest registered copying x w h r = h r
+sent_closing OpenReply registered copying x w h r = h r
+sent_closing OpenComplete registered copying x w h r = h r
+sent_closing MsgRequest registered copying x w h r = h r
 
 -- where a kind is got; an open request only after the channel has a reason to close
 no_longer : (o : Option Reason) → is_some o ≡ true → o ≡ None → ⊥

@@ -1,4 +1,6 @@
--- How the fields of a handshake stand for what it knows: one for one.
+-- How the fields of a handshake stand for what it knows: one for one. A close request is sent for a
+-- reason alone.
+use Rattle.std.specs.Prelude.{◌≡◌, true, is_some}
 use Rattle.xp_protocol.specs.State.{Shake}
 use Rattle.xp_openclose.specs.declared.handshake.Handshake.TheInside.{Inside}
 use Rattle.xp_openclose.specs.Planned.{InOrder, HasSizes}
@@ -27,3 +29,4 @@ view_of x = record {
 pub record IsSound (x : Inside) : Type 0 where
   pub order : InOrder x.sent
   pub sizes : HasSizes (view_of x)
+  pub closing : x.sent.close_request ≡ true → is_some x.reason ≡ true

@@ -35,10 +35,11 @@ sent_with k registration x =
 abbrev pub request_got : Size → Shake → Shake
 request_got size x = record (shake_got OpenRequest x) { their_size = Some size }
 
--- each open flag was sent after the one before it
+-- each open flag was sent after the one before it, and a close reply after the close request
 pub record InOrder (sent : Kinds) : Type 0 where
   pub reply : sent.open_reply ≡ true → sent.open_request ≡ true
   pub complete : sent.open_complete ≡ true → sent.open_reply ≡ true
+  pub close : sent.close_reply ≡ true → sent.close_request ≡ true
 
 -- a size that is there, and that a request may have
 abbrev pub IsLawful : Option Size → Type 0

@@ -248,10 +248,12 @@ impl Handshake {
             && self.got.contains(Kind::OpenComplete)
     }
 
-    /// Whether the link is connected.
+    /// Whether the link is connected: the partner's words may be copied then.
+    #[tactic(auto, using(crate::proofs::Order::still_copies))]
     pub fn is_connected(&self) -> bool
         ensures value { result ≡ shake_connected self.now }
         ensures open { result ≡ true → self.now.sent.open_complete ≡ true }
+        ensures copies { result ≡ true → shake_copies self.now ≡ true }
     {
         self.is_complete() && self.reason.is_none()
     }
