@@ -3,3 +3,4 @@ pub mod Settling
 pub mod Beginning
 pub mod Permitted
 pub mod Telling
+pub mod Refusing

@@ -13,7 +13,7 @@ use Rattle.xp_channel.proofs.Silent.{with_notes_append}
 use Rattle.xp_channel.specs.Channel.{Channel, Room, kept, called}
 use Rattle.xp_channel.specs.Room.{HasRoom, Settles, Pays, needs_sides, may_begin}
 use Rattle.xp_channel.proofs.Beginning.{complete_needs}
-use Rattle.xp_protocol.specs.Linking.{changed, unequal, are_unequal, channel_closed, is_ended, epoch_over, handled_next, settle, close_now}
+use Rattle.xp_protocol.specs.Linking.{changed, unequal, are_unequal, channel_closed, is_ended, epoch_over, handled_next, settle, close_now, limit_in}
 
 closed_none : (o : Option Reason) (reason : Reason) (e : End) → (close_now o reason e).reason ≡ None
 closed_none None reason e = refl
@@ -24,8 +24,8 @@ channel_none reason e = closed_none e.shake.reason reason e
 
 unequal_none : (e : End) → (unequal e).reason ≡ None
 unequal_none e = by (are_unequal e) where
-  by : (b : Bool) → (if b then channel_closed (UnequalSizes e.sides.send.limit e.sides.pull.limit) e else just e).reason ≡ None
-  by true = channel_none (UnequalSizes e.sides.send.limit e.sides.pull.limit) e
+  by : (b : Bool) → (if b then channel_closed (UnequalSizes (limit_in e.shake.own_size) (limit_in e.shake.their_size)) e else just e).reason ≡ None
+  by true = channel_none (UnequalSizes (limit_in e.shake.own_size) (limit_in e.shake.their_size)) e
   by false = refl
 
 changed_none : (e : End) → (changed e).reason ≡ None
@@ -108,8 +108,9 @@ ready_after x y z r c o h k =
 pub place_after : (x y z : Channel) → 2 ≤ x.room.next → x.room.next ≤ y.room.next + 1 → Settles y z → may_begin z.end ≤ z.room.next
 place_after x y z t n h = let a = begins_one y.end in let b = begins_one z.end in omega (arith, t, n, h.next, a, b)
 
-pub pays_after : (x y z : Channel) → (needs_sides y.end ≡ true → y.room ≡ x.room) → x.room.next ≤ y.room.next + 1 → Settles y z → Pays 0 2 x z
-pays_after x y z o n h = record {
+pub pays_after : (x y z : Channel) → (y.end.shake.sent.open_complete ≡ true → needs_sides x.end ≡ true) → (needs_sides y.end ≡ true → y.room ≡ x.room) → x.room.next ≤ y.room.next + 1 → Settles y z → Pays 0 2 x z
+pays_after x y z c o n h = record {
+  complete = λ k. c (h.complete k);
   ready = λ k r. h.ready k ∙ ap (λ (m : Room). m.ready) (o (h.needs k)) ∙ r;
   calls = λ k. omega (arith, h.calls k, ap (λ (m : Room). m.calls) (o (h.needs k)));
   ends = λ k. omega (arith, h.ends k, ap (λ (m : Room). m.ends) (o (h.needs k)));
@@ -117,9 +118,9 @@ pays_after x y z o n h = record {
 }
 
 -- there is room after a call that makes one note, where there was room for two
-pub room_after : (f : Effect End (List Note)) (x y : Channel) → y ≡ called (kept f x) y → y.end.shake.sent ≡ x.end.shake.sent → (needs_sides x.end ≡ true → 1 < x.room.calls) → x.room.calls ≤ y.room.calls + 1 → HasRoom x → HasRoom y
+pub room_after : (f : Effect End (List Note)) (x y : Channel) → y ≡ called (kept f x) y → y.end.shake.sent ≡ x.end.shake.sent → (x.end.shake.sent.open_complete ≡ true → 1 < x.room.calls) → x.room.calls ≤ y.room.calls + 1 → HasRoom x → HasRoom y
 room_after f x y e s m c h =
-    let needs : needs_sides y.end ≡ true → needs_sides x.end ≡ true = λ n. ap (λ (k : Kinds). k.open_complete || k.open_reply) (sym s) ∙ n in
+    let needs : y.end.shake.sent.open_complete ≡ true → x.end.shake.sent.open_complete ≡ true = λ n. ap (λ (k : Kinds). k.open_complete) (sym s) ∙ n in
     record {
       ready = λ n. ap (λ (w : Channel). w.room.ready) e ∙ h.ready (needs n);
       calls = λ n. omega (arith, m (needs n), c);

@@ -1,5 +1,5 @@
 -- How the fields of an end stand for what is seen of it, and what always holds of them.
-use Rattle.std.specs.Prelude.{◌≡◌, ◌≤◌, ◌+◌, true, false, [], length, Option, Some, None, vec_len, vec_capacity}
+use Rattle.std.specs.Prelude.{◌≡◌, ◌≤◌, ◌+◌, true, false, [], length, Option, IfSome, vec_len, vec_capacity}
 use Rattle.xp_base.specs.declared.layout.TheConstants.{LINES}
 use Rattle.xp_protocol.specs.Parts.{IsRequestSize}
 use Rattle.xp_protocol.specs.State.{End, Size, shake_begun}
@@ -43,14 +43,14 @@ view_of x = record {
 }
 
 abbrev pub IsRegistered : Option Size → Type 0
-IsRegistered None = Unit {0}
-IsRegistered (Some z) = IsRequestSize z.entries z.limit
+IsRegistered o = IfSome o (λ z. IsRequestSize z.entries z.limit)
 
--- numbers wait for a notice only once the open complete was sent, no more than a queue holds, and
--- for each there is a place where its end is told
+-- messages are taken, and numbers wait for a notice, only once the open complete was sent; no more
+-- wait than a queue holds, and for each there is a place where its end is told
 pub record IsSound (x : Inside) : Type 0 where
   pub registered : IsRegistered x.registration
   pub idle : x.shake.sent.open_complete ≡ false → x.sides.sides.pending_notices ≡ []
+  pub untaken : x.shake.sent.open_complete ≡ false → x.sides.sides.pull.taken ≡ 0
   pub few : length x.sides.sides.pending_notices + vec_len x.ended ≤ LINES
   pub paid : length x.sides.sides.pending_notices ≤ x.records.ends
   pub ended : x.sides.ready ≡ true → LINES ≤ vec_capacity x.ended

@@ -1,10 +1,19 @@
--- An end that is connected from the opening: its handshake is over, and its record is begun.
+-- What opens an end: its sides where the open complete is sent; and an end that is connected from
+-- the opening, whose handshake is over and whose record is begun.
 use Rattle.std.specs.Prelude.{ℕ, false, List, ◌∷◌, Option, Some, None}
 use Rattle.xp_base.specs.declared.session.Session.{Session}
 use Rattle.xp_protocol.specs.Records.{Recorded, blank_record, has_begun, has_connected}
-use Rattle.xp_protocol.specs.State.{Size, Contact, new_sides}
+use Rattle.xp_base.specs.declared.link.Kind.{Kind}
+use Rattle.xp_base.specs.declared.link.Kind.TheVariants.{OpenComplete}
+use Rattle.xp_protocol.specs.State.{Size, Contact, End, Sides, new_sides}
+use Rattle.xp_protocol.specs.Linking.{sides_agreed}
 use Rattle.xp_openclose.specs.Planned.{opened_shake}
 use Rattle.xp_channel.specs.Channel.{Channel}
+
+-- the sides after a control flag
+abbrev pub sides_sent : Kind → End → Sides
+sides_sent OpenComplete e = sides_agreed e.shake e.sides
+sides_sent k e = e.sides
 
 abbrev pub contact_of : Session → Session → Contact
 contact_of own theirs = record { own = own; theirs = theirs }

@@ -59,9 +59,7 @@ read_plan e =
 
 -- the control flag that is owed
 abbrev pub flag_plan : End → Option Kind
-flag_plan e =
-    control_owed (is_some e.registration) (nat_eq e.sides.send.limit e.sides.pull.limit)
-    (is_copying e.sides.pull) e.shake
+flag_plan e = control_owed (is_some e.registration) (is_copying e.sides.pull) e.shake
 
 abbrev pub control_plan : Option Kind → End → Option LinkRule
 control_plan None e = None

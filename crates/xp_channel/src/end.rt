@@ -12,7 +12,7 @@ ghost use Rattle.xp_protocol.specs.Runs.{owes};
 ghost use Rattle.xp_protocol.specs.Linking.{opened_notes, close_now, channel_closed, over_note, closed_more, kept_for, request_of, link_finished, link_down, link_joined, booted_end};
 ghost use Rattle.xp_pull.specs.Planned.{has_message};
 ghost use Rattle.xp_channel.specs.Channel.{Channel, new_channel, no_waiting, kept, recorded, roomed};
-ghost use Rattle.xp_channel.specs.Room.{needs_sides, HasRoom, HasTurnRoom, Settles, IsCountable, MayAsk};
+ghost use Rattle.xp_channel.specs.Room.{needs_sides, HasRoom, HasTurnRoom, IsNoLess, Settles, IsCountable, MayAsk};
 ghost use Rattle.xp_channel.specs.Opening.{contact_of, warm_in};
 
 mod commanding;
@@ -155,6 +155,22 @@ fn tell_over(sides: &mut Sides, ended: &mut Vec<u64>, records: &mut Records)
     }
 }
 
+// Each number that waits for a notice waits to be told as ended.
+#[tactic(auto, using(crate::proofs::Telling::left_numbers))]
+fn move_notices(sides: &mut Sides, ended: &mut Vec<u64>)
+    requires few { length sides.old.sides.pending_notices + vec_len ended.old ≤ LINES }
+    requires room { sides.old.ready ≡ true → LINES ≤ vec_capacity ended.old }
+    ensures sides { sides.new ≡
+        record sides.old { sides = record sides.old.sides { pending_notices = [] } } }
+    ensures ended { ended.new.items ≡ ended.old.items ++ sides.old.sides.pending_notices }
+    ensures room { vec_capacity ended.old ≤ vec_capacity ended.new }
+{
+    if let Some(number) = sides.first_notice() {
+        let _ = ended.push(number);
+        move_notices(sides, ended);
+    }
+}
+
 // A connection is over: its record says why, and of each number that waits for a notice that it
 // ended first.
 #[tactic(auto, using(crate::proofs::Silent::with_notes_append))]
@@ -229,12 +245,14 @@ impl ChannelEnd {
         }
     }
 
-    /// Makes room for all that the calls of one turn append. After want of memory the end is as
-    /// before, but for its room.
+    /// Makes room for all that the calls of one turn append: every step of the turn may be made then,
+    /// also one that opens the channel. After want of memory the end is as before, but for its room,
+    /// of which none is lost.
     pub fn reserve(&mut self) -> Result<(), AllocError>
         ensures ok { OnOk result (HasTurnRoom self.new) }
         ensures room { OnOk result (HasRoom self.new) }
         ensures same { self.new ≡ roomed self.old self.new }
+        ensures kept { IsNoLess self.old.room self.new.room }
     {
         if self.shake.contact().is_some() {
             self.records.reserve_next()?;
@@ -249,7 +267,8 @@ impl ChannelEnd {
 
     /// Whether there is room for all that the calls of one turn append.
     pub fn has_turn_room(&self) -> bool
-        ensures { result ≡ true → HasTurnRoom self.now }
+        ensures yes { result ≡ true → HasTurnRoom self.now }
+        ensures no { HasTurnRoom self.now → result ≡ true }
     {
         if self.shake.contact().is_some() && !self.records.has_next() {
             return false;
@@ -264,21 +283,22 @@ impl ChannelEnd {
         self.shake.has_sent(Kind::OpenComplete) || self.shake.has_sent(Kind::OpenReply)
     }
 
-    /// There is contact with the partner, under these sessions, until it goes down. The channel
-    /// stays registered as it is.
-    pub fn start(&mut self, own: Session, theirs: Session)
-        requires { self.old.end.sides.pending_notices ≡ [] }
+    /// There is contact with the partner, under these sessions, until it goes down: both versions
+    /// know entries of several lines, or not both do. The channel stays registered as it is.
+    pub fn start(&mut self, own: Session, theirs: Session, both_new: bool)
         ensures end { self.new ≡
-            roomed (kept (link_joined (contact_of own theirs) self.old.end) self.old) self.new }
+            roomed (kept (link_joined both_new (contact_of own theirs) self.old.end) self.old)
+            self.new }
         ensures next { self.new.room.next ≡ self.old.room.next }
     {
+        move_notices(&mut self.sides, &mut self.ended);
         self.epoch = 0;
         self.sides = Sides::new(largest_size(), largest_size());
-        self.shake = Handshake::new();
-        self.shake.start(Contact { own, theirs });
+        self.shake.start(Contact { own, theirs }, both_new);
     }
 
-    /// The channel is registered and connected on both ends, for queues of this size, from now on.
+    /// The channel is registered and connected on both ends, for queues of this size, from now on,
+    /// in the contact that was made by `start`.
     pub fn warm(&mut self, entries: u8, limit: u16)
         requires size { IsRequestSize entries limit }
         requires contact { IsSome self.old.end.shake.meet }
@@ -302,7 +322,8 @@ impl ChannelEnd {
 
 impl ChannelEnd {
     /// The partner is deactivated: an epoch that is begun gets the reason, unless it has one, and
-    /// no flag is owed from then on. What is in progress is answered by `answer`.
+    /// from then on no flag is owed and no copy goes on. What is in progress is answered by
+    /// `answer`.
     #[tactic(auto, using(crate::proofs::Silent::with_notes_append))]
     pub fn down(&mut self, reason: Reason)
         ensures { self.new ≡ kept (link_down reason self.old.end) self.old }
@@ -311,6 +332,7 @@ impl ChannelEnd {
             self.close(reason);
         }
         self.shake.leave();
+        self.sides.end_copies();
     }
 
     /// The session is over: a begun epoch ends with its reason, and epoch 0 of the next session
@@ -412,6 +434,7 @@ impl ChannelEnd {
         ensures settles { Settles self.old self.new }
         ensures epoch { self.new.end.epoch ≡ self.old.end.epoch }
         ensures sent { self.new.end.shake.sent ≡ self.old.end.shake.sent }
+        ensures closed { is_some self.new.end.shake.reason ≡ true }
     {
         self.open_record();
         self.close(reason);
@@ -423,6 +446,7 @@ impl ChannelEnd {
         requires { is_begun self.old.end ≡ true }
         ensures end { self.new ≡ kept (channel_closed reason self.old.end) self.old }
         ensures sent { self.new.end.shake.sent ≡ self.old.end.shake.sent }
+        ensures meet { self.new.end.shake.meet ≡ self.old.end.shake.meet }
     {
         self.close(reason);
     }
@@ -480,22 +504,13 @@ impl ChannelEnd {
         ensures { result ≡ owes self.now.end }
     {
         let registered = self.registration.is_some();
-        let equal = self.sides.has_equal_limits();
         let copying = self.sides.copying();
         (self.shake.is_connected() && self.sides.local_get() < self.sides.front())
-            || self
-                .shake
-                .owed(Kind::OpenRequest, registered, equal, copying)
-            || self.shake.owed(Kind::OpenReply, registered, equal, copying)
-            || self
-                .shake
-                .owed(Kind::OpenComplete, registered, equal, copying)
-            || self
-                .shake
-                .owed(Kind::CloseRequest, registered, equal, copying)
-            || self
-                .shake
-                .owed(Kind::CloseReply, registered, equal, copying)
+            || self.shake.owed(Kind::OpenRequest, registered, copying)
+            || self.shake.owed(Kind::OpenReply, registered, copying)
+            || self.shake.owed(Kind::OpenComplete, registered, copying)
+            || self.shake.owed(Kind::CloseRequest, registered, copying)
+            || self.shake.owed(Kind::CloseReply, registered, copying)
             || self.shake.owes_message()
     }
 

@@ -9,7 +9,7 @@ ghost use Rattle.xp_protocol.specs.Releasing.{release_refusal};
 ghost use Rattle.xp_protocol.specs.State.{link_of, is_connected};
 ghost use Rattle.xp_protocol.specs.Acts.{end_begun, send_begun, refused_send, take_begun, release_begun, drain_begun, drain_refusal, register_begun, unregister_begun, due_by, take_found, take_logged, drain_logged, taken_by, notice_due, limit_of};
 ghost use Rattle.xp_channel.specs.Channel.{kept, called};
-ghost use Rattle.xp_channel.specs.Room.{needs_sides, HasRoom, IsCountable};
+ghost use Rattle.xp_channel.specs.Room.{HasRoom, IsCountable};
 ghost use Rattle.xp_channel.specs.Answering.{IsWellFormed, given, noticed};
 
 mod linking;
@@ -36,6 +36,7 @@ impl ChannelEnd {
             called (kept (end_begun self.old.end command.now) self.old) self.new }
         ensures calls { self.old.room.calls ≤ self.new.room.calls + 1 }
         ensures sent { self.new.end.shake.sent ≡ self.old.end.shake.sent }
+        ensures meet { self.new.end.shake.meet ≡ self.old.end.shake.meet }
     {
         match command {
             Command::Send {
@@ -72,6 +73,7 @@ impl ChannelEnd {
         ensures end { self.new ≡ kept (register_begun self.old.end.registration size self.old.end)
             self.old }
         ensures sent { self.new.end.shake.sent ≡ self.old.end.shake.sent }
+        ensures meet { self.new.end.shake.meet ≡ self.old.end.shake.meet }
     {
         if self.registration.is_some() {
             self.decided.register = Some(RegisterAnswer::Already);
@@ -87,6 +89,7 @@ impl ChannelEnd {
         ensures end { self.new ≡
             kept (unregister_begun self.old.end.registration self.old.end) self.old }
         ensures sent { self.new.end.shake.sent ≡ self.old.end.shake.sent }
+        ensures meet { self.new.end.shake.meet ≡ self.old.end.shake.meet }
     {
         if self.registration.is_none() {
             self.decided.unregister = Some(UnregisterAnswer::NotRegistered);
@@ -108,6 +111,7 @@ impl ChannelEnd {
             (send_begun (refused_send self.old.end payload.now) payload.now wait notify
             self.old.end) self.old }
         ensures sent { self.new.end.shake.sent ≡ self.old.end.shake.sent }
+        ensures meet { self.new.end.shake.meet ≡ self.old.end.shake.meet }
     {
         match self.refuse_send(payload) {
             Some(answer) => self.decided.send = Some(answer),
@@ -134,7 +138,7 @@ impl ChannelEnd {
     fn refuse_send(&self, payload: &[u8]) -> Option<SendAnswer>
         requires payload { length payload.now ≤ SEND_BYTES }
         ensures value { result ≡ refused_send self.now.end payload.now }
-        ensures needs { result ≡ None → needs_sides self.now.end ≡ true }
+        ensures complete { result ≡ None → self.now.end.shake.sent.open_complete ≡ true }
         ensures limit { result ≡ None → length payload.now ≤ self.now.end.sides.send.limit }
     {
         if let Some(limit) = self.payload_limit() {
@@ -159,6 +163,7 @@ impl ChannelEnd {
         ensures end { self.new ≡ kept
             (take_begun (take_refusal (link_of self.old.end)) wait self.old.end) self.old }
         ensures sent { self.new.end.shake.sent ≡ self.old.end.shake.sent }
+        ensures meet { self.new.end.shake.meet ≡ self.old.end.shake.meet }
     {
         match self.shake.state() {
             LinkState::Closing(reason) => {
@@ -181,6 +186,7 @@ impl ChannelEnd {
             self.old.end) self.old) self.new }
         ensures calls { self.old.room.calls ≤ self.new.room.calls + 1 }
         ensures sent { self.new.end.shake.sent ≡ self.old.end.shake.sent }
+        ensures meet { self.new.end.shake.meet ≡ self.old.end.shake.meet }
     {
         if !self.shake.is_connected() {
             self.decided.release = Some(ReleaseAnswer::NotConnected);
@@ -206,6 +212,7 @@ impl ChannelEnd {
         ensures end { self.new ≡ kept (drain_begun (drain_refusal (link_of self.old.end)) self.old.end)
             self.old }
         ensures sent { self.new.end.shake.sent ≡ self.old.end.shake.sent }
+        ensures meet { self.new.end.shake.meet ≡ self.old.end.shake.meet }
     {
         match self.shake.state() {
             LinkState::Closing(reason) => {
@@ -229,43 +236,22 @@ impl ChannelEnd {
         ensures end { self.new ≡ called (kept (given verb self.old.end) self.old) self.new }
         ensures calls { self.old.room.calls ≤ self.new.room.calls + 1 }
         ensures sent { self.new.end.shake.sent ≡ self.old.end.shake.sent }
+        ensures meet { self.new.end.shake.meet ≡ self.old.end.shake.meet }
     {
         match verb {
-            Verb::Send => {
-                let answer = self.decided.send?;
-                self.decided.send = None;
-                Some(LogAnswer::Send(answer))
-            }
+            Verb::Send => self.give_send(),
             Verb::Take => {
                 let answer = self.give_take()?;
                 Some(LogAnswer::Take(answer))
             }
-            Verb::Release => {
-                let answer = self.decided.release?;
-                self.decided.release = None;
-                Some(LogAnswer::Release(answer))
-            }
+            Verb::Release => self.give_release(),
             Verb::Drain => {
                 let answer = self.give_drain()?;
                 Some(LogAnswer::Drain(answer))
             }
-            Verb::Register => {
-                let answer = self.decided.register?;
-                self.decided.register = None;
-                Some(LogAnswer::Register(answer))
-            }
-            Verb::Unregister => {
-                let answer = self.decided.unregister?;
-                self.decided.unregister = None;
-                Some(LogAnswer::Unregister(answer))
-            }
-            Verb::Connected => {
-                if self.shake.is_connected() {
-                    Some(LogAnswer::Connected)
-                } else {
-                    None
-                }
-            }
+            Verb::Register => self.give_register(),
+            Verb::Unregister => self.give_unregister(),
+            Verb::Connected => self.connected_answer(),
             Verb::Closed => {
                 let reason = self.closed_due()?;
                 Some(LogAnswer::Closed(reason))
@@ -278,6 +264,69 @@ impl ChannelEnd {
             | Verb::Idle
             | Verb::Offline
             | Verb::Online => None,
+        }
+    }
+
+    // The answer of a send is given, where it is decided.
+    fn give_send(&mut self) -> Option<LogAnswer>
+        ensures answer { result ≡ due_by Verb.Send self.old.end }
+        ensures none { result ≡ None → self.new ≡ self.old }
+        ensures end { self.new ≡ kept (given Verb.Send self.old.end) self.old }
+        ensures sent { self.new.end.shake.sent ≡ self.old.end.shake.sent }
+        ensures meet { self.new.end.shake.meet ≡ self.old.end.shake.meet }
+    {
+        let answer = self.decided.send?;
+        self.decided.send = None;
+        Some(LogAnswer::Send(answer))
+    }
+
+    // The answer of a release is given, where it is decided.
+    fn give_release(&mut self) -> Option<LogAnswer>
+        ensures answer { result ≡ due_by Verb.Release self.old.end }
+        ensures none { result ≡ None → self.new ≡ self.old }
+        ensures end { self.new ≡ kept (given Verb.Release self.old.end) self.old }
+        ensures sent { self.new.end.shake.sent ≡ self.old.end.shake.sent }
+        ensures meet { self.new.end.shake.meet ≡ self.old.end.shake.meet }
+    {
+        let answer = self.decided.release?;
+        self.decided.release = None;
+        Some(LogAnswer::Release(answer))
+    }
+
+    // The answer of a registration is given, where it is decided.
+    fn give_register(&mut self) -> Option<LogAnswer>
+        ensures answer { result ≡ due_by Verb.Register self.old.end }
+        ensures none { result ≡ None → self.new ≡ self.old }
+        ensures end { self.new ≡ kept (given Verb.Register self.old.end) self.old }
+        ensures sent { self.new.end.shake.sent ≡ self.old.end.shake.sent }
+        ensures meet { self.new.end.shake.meet ≡ self.old.end.shake.meet }
+    {
+        let answer = self.decided.register?;
+        self.decided.register = None;
+        Some(LogAnswer::Register(answer))
+    }
+
+    // The answer of the withdrawal of a registration is given, where it is decided.
+    fn give_unregister(&mut self) -> Option<LogAnswer>
+        ensures answer { result ≡ due_by Verb.Unregister self.old.end }
+        ensures none { result ≡ None → self.new ≡ self.old }
+        ensures end { self.new ≡ kept (given Verb.Unregister self.old.end) self.old }
+        ensures sent { self.new.end.shake.sent ≡ self.old.end.shake.sent }
+        ensures meet { self.new.end.shake.meet ≡ self.old.end.shake.meet }
+    {
+        let answer = self.decided.unregister?;
+        self.decided.unregister = None;
+        Some(LogAnswer::Unregister(answer))
+    }
+
+    // The answer of a wait for a connection, where it stands.
+    fn connected_answer(&self) -> Option<LogAnswer>
+        ensures { result ≡ due_by Verb.Connected self.now.end }
+    {
+        if self.shake.is_connected() {
+            Some(LogAnswer::Connected)
+        } else {
+            None
         }
     }
 
@@ -300,6 +349,7 @@ impl ChannelEnd {
         ensures end { self.new ≡ called (kept (given Verb.Take self.old.end) self.old) self.new }
         ensures calls { self.old.room.calls ≤ self.new.room.calls + 1 }
         ensures sent { self.new.end.shake.sent ≡ self.old.end.shake.sent }
+        ensures meet { self.new.end.shake.meet ≡ self.old.end.shake.meet }
     {
         if let Some(refusal) = self.decided.take {
             self.decided.take = None;
@@ -326,6 +376,7 @@ impl ChannelEnd {
             self.new }
         ensures calls { self.old.room.calls ≤ self.new.room.calls + 1 }
         ensures sent { self.new.end.shake.sent ≡ self.old.end.shake.sent }
+        ensures meet { self.new.end.shake.meet ≡ self.old.end.shake.meet }
     {
         let answer = self.sides.take();
         if let Some(TakeAnswer::Taken { body, .. }) = &answer {
@@ -341,6 +392,7 @@ impl ChannelEnd {
         ensures none { result ≡ None → self.new ≡ self.old }
         ensures end { self.new ≡ kept (given Verb.Drain self.old.end) self.old }
         ensures sent { self.new.end.shake.sent ≡ self.old.end.shake.sent }
+        ensures meet { self.new.end.shake.meet ≡ self.old.end.shake.meet }
     {
         if let Some(answer) = self.decided.drain {
             self.decided.drain = None;
@@ -390,6 +442,7 @@ impl ChannelEnd {
         ensures end { self.new ≡ called (kept (noticed Delivered self.old.end) self.old) self.new }
         ensures calls { self.old.room.calls ≤ self.new.room.calls + 1 }
         ensures sent { self.new.end.shake.sent ≡ self.old.end.shake.sent }
+        ensures meet { self.new.end.shake.meet ≡ self.old.end.shake.meet }
     {
         let number = self.sides.known_notice()?;
         self.records.note_delivered(number);
@@ -402,6 +455,7 @@ impl ChannelEnd {
         ensures none { result ≡ None → self.new ≡ self.old }
         ensures end { self.new ≡ kept (noticed Ended self.old.end) self.old }
         ensures sent { self.new.end.shake.sent ≡ self.old.end.shake.sent }
+        ensures meet { self.new.end.shake.meet ≡ self.old.end.shake.meet }
     {
         if self.ended.is_empty() {
             return None;

@@ -111,11 +111,8 @@ impl ChannelEnd {
         ensures zero { result ≡ Some Kind.OpenRequest → self.now.end.shake.sent.open_complete ≡
             false }
     {
-        self.shake.owes(
-            self.registration.is_some(),
-            self.sides.has_equal_limits(),
-            self.sides.copying(),
-        )
+        self.shake
+            .owes(self.registration.is_some(), self.sides.copying())
     }
 
     // What is stored before a flag, and then the flag.

@@ -1,11 +1,11 @@
 // What the partner's flags make of an end: they are taken, and handled one after the other, each
 // with its argument.
-ghost use Rattle.std.specs.Prelude.{◌≡◌, ◌+◌, ◌-◌, ◌<◌, ◌≤◌, ◌^◌, IfSome, IsSome, Some, None, true, false};
+ghost use Rattle.std.specs.Prelude.{◌≡◌, ◌+◌, ◌-◌, ◌<◌, ◌≤◌, ◌^◌, IfSome, IsSome, Some, None, is_some, true, false};
 ghost use Rattle.xp_base.specs.Kinds.{next_of};
 ghost use Rattle.xp_protocol.specs.Parts.{IsRequestSize};
 ghost use Rattle.xp_protocol.specs.Effects.{first_reason};
 ghost use Rattle.xp_protocol.specs.State.{is_begun};
-ghost use Rattle.xp_protocol.specs.Linking.{epoch_over, changed, unequal, handled, request_handled, reply_handled, code_handled, kind_got, handled_next, settle, settled, connection_noted, flags_got};
+ghost use Rattle.xp_protocol.specs.Linking.{epoch_over, changed, channel_closed, unequal, handled, has_argument, request_handled, reply_handled, code_handled, kind_got, handled_next, settle, settled, connection_noted, flags_got};
 ghost use Rattle.xp_channel.specs.Channel.{kept, roomed};
 ghost use Rattle.xp_channel.specs.Room.{needs_sides, may_begin, may_end, Settles};
 ghost use Rattle.xp_channel.specs.Planned.{requested, error_or};
@@ -65,18 +65,15 @@ impl ChannelEnd {
         self.epoch += 1;
     }
 
-    // The channel closes where both open requests are there with unequal limits.
+    // The channel closes where both open requests are there and no limit is agreed.
+    #[tactic(auto, using(crate::proofs::Beginning::unequal_begun))]
     fn close_unequal(&mut self)
         ensures end { self.new ≡ roomed (kept (unequal self.old.end) self.old) self.new }
         ensures settles { Settles self.old self.new }
     {
-        if self.shake.reason().is_none()
-            && self.shake.has_sent(Kind::OpenRequest)
-            && self.shake.has_got(Kind::OpenRequest)
-            && !self.sides.has_equal_limits()
-        {
-            let own = self.sides.own_limit();
-            let theirs = self.sides.their_limit();
+        if self.shake.is_unequal() {
+            let own = self.shake.own_limit();
+            let theirs = self.shake.their_limit();
             self.close_channel(Reason::UnequalSizes { own, theirs });
         }
     }
@@ -94,24 +91,49 @@ impl ChannelEnd {
         }
     }
 
-    // The partner's open request is handled: its queue has the size that is asked for.
+    // The partner's open request is handled: the size that it asks for is known, or the channel
+    // closes for it.
     fn handle_request(&mut self)
         requires contact { IsSome self.old.end.shake.meet }
+        requires argument { is_some self.old.end.shake.request ≡ true }
+        requires first { self.old.end.shake.got.open_request ≡ false }
         requires next { may_begin self.old.end ≤ self.old.room.next }
         ensures end { self.new ≡
             roomed (kept (request_handled self.old.end.shake.request
             (kind_got Kind.OpenRequest self.old.end)) self.old) self.new }
         ensures settles { Settles self.old self.new }
     {
-        let request = self.shake.request();
-        self.shake.mark_got(Kind::OpenRequest);
-        let Some(word) = request else {
-            return;
+        let Some(word) = self.shake.request() else {
+            unreachable!();
         };
         match requested(word) {
-            Some(size) => self.sides.size_theirs(size),
-            None => self.close_channel(Reason::BadArgs { word }),
+            Some(size) => self.shake.accept_request(size),
+            None => self.refuse_request(word),
         }
+    }
+
+    // The channel closes for an open request that asks for no size.
+    #[tactic(auto, using(crate::proofs::Settling::settles_then))]
+    fn refuse_request(&mut self, word: u64)
+        requires contact { IsSome self.old.end.shake.meet }
+        requires next { may_begin self.old.end ≤ self.old.room.next }
+        ensures end { self.new ≡
+            roomed (kept (channel_closed (Reason.BadArgs word)
+            (kind_got Kind.OpenRequest self.old.end)) self.old) self.new }
+        ensures settles { Settles self.old self.new }
+    {
+        self.close_channel(Reason::BadArgs { word });
+        self.mark_refused();
+    }
+
+    // An open request for which the channel closes is got.
+    fn mark_refused(&mut self)
+        requires { is_some self.old.end.shake.reason ≡ true }
+        ensures end { self.new ≡
+            record self.old { end = kind_got Kind.OpenRequest self.old.end } }
+        ensures settles { Settles self.old self.new }
+    {
+        self.shake.mark_got(Kind::OpenRequest);
     }
 
     // The partner's open reply is handled: it has to be the place of the partner's entries.
@@ -158,6 +180,7 @@ impl ChannelEnd {
     #[tactic(auto, using(crate::proofs::Silent::with_notes_append))]
     fn handle(&mut self, kind: Kind) -> Option<Reason>
         requires contact { IsSome self.old.end.shake.meet }
+        requires argument { has_argument kind self.old.end.shake ≡ true }
         requires ready { self.old.end.shake.sent.open_complete ≡ true → self.old.room.ready ≡ true }
         requires next { may_begin self.old.end ≤ self.old.room.next }
         ensures end { self.new ≡ roomed (kept (handled kind self.old.end) self.old) self.new }

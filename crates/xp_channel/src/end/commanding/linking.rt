@@ -2,7 +2,7 @@
 ghost use Rattle.std.specs.Prelude.{◌≡◌, ◌+◌, ◌-◌, ◌<◌, ◌≤◌, ◌^◌, ◌↔◌, not, is_some, Some, None, true, false};
 ghost use Rattle.xp_protocol.specs.Acts.{end_begun, due_by};
 ghost use Rattle.xp_channel.specs.Channel.{kept, called};
-ghost use Rattle.xp_channel.specs.Room.{needs_sides, HasRoom, IsCountable};
+ghost use Rattle.xp_channel.specs.Room.{HasRoom, IsCountable};
 ghost use Rattle.xp_channel.specs.Answering.{IsWellFormed, given};
 ghost use Rattle.xp_channel.specs.Linked.{command_of, verb_of_link, linked};
 ghost use Rattle.xp_channel.specs.Waiting.{waited, is_answerable, first_due, answer_by, answered_by};
@@ -19,7 +19,7 @@ impl ChannelEnd {
     pub fn command(&mut self, command: LinkCommand<'_>) -> Option<LinkAnswer>
         requires command { IsWellFormed (command_of self.old.partner self.old.channel command) }
         requires room { HasRoom self.old }
-        requires calls { needs_sides self.old.end ≡ true → 1 < self.old.room.calls }
+        requires calls { self.old.end.shake.sent.open_complete ≡ true → 1 < self.old.room.calls }
         requires counts { IsCountable self.old.end }
         ensures answer { let f = end_begun self.old.end
             (command_of self.old.partner self.old.channel command.entry) in

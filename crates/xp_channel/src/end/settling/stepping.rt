@@ -1,12 +1,15 @@
 // The steps of an end: what becomes of it when one is answered.
 ghost use Rattle.std.specs.Prelude.{◌≡◌, ◌+◌, ◌-◌, ◌<◌, ◌≤◌, ◌^◌, ◌++◌, ◌∷◌, [], length, IfSome, IsSome, Some, None, true, false};
 ghost use Rattle.xp_base.specs.declared.layout.TheConstants.{LINES};
-ghost use Rattle.xp_protocol.specs.Sending.{new_sending, ring_can};
+ghost use Rattle.xp_base.specs.Kinds.{also};
+ghost use Rattle.xp_protocol.specs.Sending.{ring_can};
 ghost use Rattle.xp_protocol.specs.Pulling.{pull_can};
 ghost use Rattle.xp_protocol.specs.State.{is_begun, link_of};
-ghost use Rattle.xp_protocol.specs.Linking.{link_can, link_effect, acknowledged, with_sent, control_sent, flag_sent, owed, argument_stored, argument_read, with_argument, entries_in, limit_in};
+ghost use Rattle.xp_protocol.specs.Linking.{link_can, link_effect, acknowledged, with_sent, control_sent, flag_sent, owed, argument_stored, argument_read, with_argument};
 ghost use Rattle.xp_protocol.specs.declared.rule.LinkRule.TheVariants.{Ring as ByRing, Pull as ByPull};
 ghost use Rattle.xp_channel.specs.Channel.{kept, roomed, called};
+ghost use Rattle.xp_openclose.specs.Planned.{is_control};
+ghost use Rattle.xp_channel.specs.Opening.{sides_sent};
 ghost use Rattle.xp_channel.specs.Room.{needs_sides, HasRoom, Pays, Settles, IsCountable, MayAsk};
 ghost use Rattle.xp_channel.specs.Planned.{end_plan, wanted_by, fed, answered, place_of, rule_mark, error_or, MayAnswer, MayFail, MayFeed, MayStep};
 
@@ -96,7 +99,7 @@ impl ChannelEnd {
 
     // A step of the receiving side was answered a word. The sending side of this end hears the
     // partner's get.
-    #[tactic(auto, using(crate::proofs::Silent::heard_silent, crate::proofs::Beginning::copying_needs))]
+    #[tactic(auto, using(crate::proofs::Silent::heard_silent, crate::proofs::Beginning::copying_complete))]
     fn pull(&mut self, rule: PullRule, word: u64) -> Option<Reason>
         requires can { link_can self.old.end (ByPull rule) }
         requires room { HasRoom self.old }
@@ -132,51 +135,43 @@ impl ChannelEnd {
 }
 
 impl ChannelEnd {
-    // A control flag was sent, and the record of the epoch begun. With the open request the own
-    // queue has the size of the registration.
+    // A control flag was sent, and the record of the epoch begun.
     #[tactic(auto, using(crate::proofs::Beginning::sent_flag))]
     fn mark_sent(&mut self, kind: Kind)
+        requires control { is_control kind ≡ true }
         requires owed { owed kind self.old.end ≡ true }
         requires contact { IsSome self.old.end.shake.meet }
         requires next { 0 < self.old.room.next }
         ensures end { self.new ≡ roomed (kept (with_sent kind self.old.end) self.old) self.new }
         ensures room { needs_sides self.new.end ≡ true → self.new.room ≡ self.old.room }
+        ensures sent { self.new.end.shake.sent ≡ also kind self.old.end.shake.sent }
         ensures complete { self.new.end.shake.sent.open_complete ≡ true → needs_sides self.old.end ≡
             true }
         ensures next { self.old.room.next ≤ self.new.room.next + 1 }
     {
-        let registered = self.registration.is_some();
-        let equal = self.sides.has_equal_limits();
         let copying = self.sides.copying();
         self.open_record();
-        self.shake.mark_sent(kind, registered, equal, copying);
-        if kind == Kind::OpenRequest {
-            self.size_own();
-        }
+        self.open_sides(kind);
+        self.shake.mark_sent(kind, self.registration, copying);
     }
 
-    // With the open request the own queue has the size of the registration.
-    fn size_own(&mut self)
-        requires registered { IsSome self.old.end.registration }
-        requires none { self.old.end.sides.pending_notices ≡ [] }
-        ensures { self.new ≡ record self.old {
-          end = record self.old.end {
-            sides = record self.old.end.sides {
-              send = new_sending (entries_in self.old.end.registration)
-                  (limit_in self.old.end.registration);
-            };
-          };
-        } }
+    // With the open complete both sides are made anew.
+    #[tactic(auto, using(crate::proofs::Beginning::replied_by, crate::proofs::Beginning::unopened_by))]
+    fn open_sides(&mut self, kind: Kind)
+        requires owed { owed kind self.old.end ≡ true }
+        ensures { self.new ≡ record self.old
+            { end = record self.old.end { sides = sides_sent kind self.old.end } } }
     {
-        match self.registration {
-            Some(size) => self.sides.size_own(size),
-            None => unreachable!(),
+        if kind == Kind::OpenComplete {
+            let (own, theirs) = self.shake.queue_sizes();
+            self.sides.open(own, theirs);
         }
     }
 
     // A control flag was sent: the epoch may end, and flags that were taken before may be handled.
     #[tactic(auto, using(crate::proofs::Settling::sending))]
     fn send_control(&mut self, kind: Kind) -> Option<Reason>
+        requires control { is_control kind ≡ true }
         requires owed { owed kind self.old.end ≡ true }
         requires contact { IsSome self.old.end.shake.meet }
         requires epoch { self.old.end.epoch < 2 ^ 64 - 1 }
@@ -192,6 +187,7 @@ impl ChannelEnd {
     }
 
     // A flag was sent.
+    #[tactic(auto, using(crate::proofs::Beginning::complete_needs))]
     fn send_flag(&mut self, kind: Kind) -> Option<Reason>
         requires owed { owed kind self.old.end ≡ true }
         requires contact { IsSome self.old.end.shake.meet }
@@ -274,6 +270,7 @@ impl ChannelEnd {
         requires can { link_can self.old.end rule }
         requires counts { IsCountable self.old.end }
         requires room { HasRoom self.old }
+        requires ready { needs_sides self.old.end ≡ true → self.old.room.ready ≡ true }
         requires next { IsSome self.old.end.shake.meet → 2 ≤ self.old.room.next }
         requires asks { MayStep self.old.end rule }
         ensures end { self.new ≡
@@ -306,7 +303,7 @@ impl ChannelEnd {
     }
 
     // A rule's load failed: its copy is over.
-    #[tactic(auto, using(crate::proofs::Beginning::copying_needs))]
+    #[tactic(auto, using(crate::proofs::Beginning::copying_complete))]
     fn fail(&mut self, rule: LinkRule) -> Option<Reason>
         requires can { link_can self.old.end rule }
         requires load { IsSome (rule_mark self.old rule) }
@@ -366,12 +363,15 @@ impl ChannelEnd {
     }
 
     /// Takes the answer of a rule's step. It gives the reason to deactivate the partner, where
-    /// there is one.
+    /// there is one. Where there is turn room there is room for each step, and after it for the
+    /// other calls of the turn.
+    #[tactic(auto, using(crate::proofs::Beginning::complete_needs))]
     pub fn step(&mut self, rule: LinkRule, answer: Answer) -> Option<Reason>
         requires can { link_can self.old.end rule }
         requires load { MayFail (rule_mark self.old rule) answer }
         requires counts { IsCountable self.old.end }
         requires room { HasRoom self.old }
+        requires ready { needs_sides self.old.end ≡ true → self.old.room.ready ≡ true }
         requires next { IsSome self.old.end.shake.meet → 2 ≤ self.old.room.next }
         requires asks { MayStep self.old.end rule }
         ensures end { self.new ≡ roomed (kept (answered self.old rule answer) self.old) self.new }
@@ -386,10 +386,12 @@ impl ChannelEnd {
 
     /// Takes the answer of the step that `next` gives for a kind of work. Err is a reason to
     /// deactivate the partner.
+    #[tactic(auto, using(crate::proofs::Beginning::complete_needs))]
     pub fn feed(&mut self, work: Work, answer: Answer) -> Result<(), Reason>
         requires step { MayAnswer (wanted_by self.old (end_plan work self.old.end)) answer }
         requires counts { IsCountable self.old.end }
         requires room { HasRoom self.old }
+        requires ready { needs_sides self.old.end ≡ true → self.old.room.ready ≡ true }
         requires next { IsSome self.old.end.shake.meet → 2 ≤ self.old.room.next }
         requires asks { MayFeed self.old.end (end_plan work self.old.end) }
         ensures end { self.new ≡

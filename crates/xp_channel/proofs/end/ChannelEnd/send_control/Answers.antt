@@ -19,4 +19,4 @@ settle_all-requires-clause-next c = place_after c.args.self.now c.mark_sent.new.
 pub returns-clause-pays : goal.returns-clause-pays
 returns-clause-pays c =
     let settles = settles_then c.mark_sent.new.self c.change.new.self c.settle_all.new.self c.change.ensures.settles c.settle_all.ensures.settles in
-    pays_after c.args.self.now c.mark_sent.new.self c.settle_all.new.self c.mark_sent.ensures.room c.mark_sent.ensures.next settles
+    pays_after c.args.self.now c.mark_sent.new.self c.settle_all.new.self c.mark_sent.ensures.complete c.mark_sent.ensures.room c.mark_sent.ensures.next settles
