@@ -100,9 +100,15 @@ size_back z h =
           let p : a * lines b ≤ LINES = subst (λ (x : ℕ). x * lines b ≤ LINES) (sym e) (subst (λ (y : ℕ). n * lines y ≤ LINES) (sym l) h.3) in
           grind (arith, nat_tests, h, p)
 
--- the agreed limit is no more than either, so a size with it fits as well
+-- the lesser of two limits is no more than either, so a size with it fits as well
 pub lesser_turned : (a b : ℕ) → lesser a b ≡ lesser b a
 lesser_turned a b = grind (arith, nat_tests)
+
+lesser_first : (a b : ℕ) → lesser a b ≤ a
+lesser_first a b = grind (arith, nat_tests)
+
+lesser_second : (a b : ℕ) → lesser a b ≤ b
+lesser_second a b = grind (arith, nat_tests)
 
 pub size_agreed : (z own their : Size) → IsRequestSize z.entries z.limit → lesser own.limit their.limit ≤ z.limit → (let k = agreed_size z own their in IsRequestSize k.entries k.limit)
 size_agreed z own their h le = (h.0, h.1, omega (arith, h.2, le), fits (lesser own.limit their.limit) le) where
@@ -111,12 +117,6 @@ size_agreed z own their h le = (h.0, h.1, omega (arith, h.2, le), fits (lesser o
 
   fits : (m : ℕ) → m ≤ z.limit → z.entries * lines m ≤ LINES
   fits m h' = let k = more m z.limit h' in grind (arith, h, k)
-
-lesser_first : (a b : ℕ) → lesser a b ≤ a
-lesser_first a b = grind (arith, nat_tests)
-
-lesser_second : (a b : ℕ) → lesser a b ≤ b
-lesser_second a b = grind (arith, nat_tests)
 
 -- both ends agree on the sizes of their sides
 pub record AreAgreed (a b : Terms) : Type 0 where

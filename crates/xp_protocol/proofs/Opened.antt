@@ -53,14 +53,14 @@ opened_from_link new (l ∷ ls) peers q c =
     let last = end_at (opened_peers new ls one) q c in
     let R : Type 0 = (last ≡ old) ⊎ (Met new (l ∷ ls) q old last ⊎ Opened new (l ∷ ls) q c last) in
     let same : (λ (y : End). last ≡ y → R) (end_at one q c) =
-        at_warm (λ (y : End). last ≡ y → R) new l peers q c
-        (λ a b f. inr (inr (record { number = 0; link = l; listed = refl; partner = sym a; channel = sym b; is = f })))
-        (λ a f. inr (inl (record { number = 0; link = l; listed = refl; partner = sym a; is = f }))) (λ f. inl f) in
+    at_warm (λ (y : End). last ≡ y → R) new l peers q c
+    (λ a b f. inr (inr (record { number = 0; link = l; listed = refl; partner = sym a; channel = sym b; is = f })))
+    (λ a f. inr (inl (record { number = 0; link = l; listed = refl; partner = sym a; is = f }))) (λ f. inl f) in
     let met : (λ (y : End). Met new ls q y last → R) (end_at one q c) =
-        at_warm (λ (y : End). Met new ls q y last → R) new l peers q c
-        (λ a b h. inr (inr (record { number = 0; link = l; listed = refl; partner = sym a; channel = sym b; is = h.is })))
-        (λ a h. inr (inl (record { number = suc h.number; link = h.link; listed = h.listed; partner = h.partner; is = h.is })))
-        (λ h. inr (inl (record { number = suc h.number; link = h.link; listed = h.listed; partner = h.partner; is = h.is }))) in
+    at_warm (λ (y : End). Met new ls q y last → R) new l peers q c
+    (λ a b h. inr (inr (record { number = 0; link = l; listed = refl; partner = sym a; channel = sym b; is = h.is })))
+    (λ a h. inr (inl (record { number = suc h.number; link = h.link; listed = h.listed; partner = h.partner; is = h.is })))
+    (λ h. inr (inl (record { number = suc h.number; link = h.link; listed = h.listed; partner = h.partner; is = h.is }))) in
     elim (opened_from_link new ls one q c) [
       | inl e ↦ same e
       | inr (inl h) ↦ met h
