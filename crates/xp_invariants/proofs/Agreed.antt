@@ -1,6 +1,6 @@
 -- Two ends in one epoch, each of which has sent its open complete, have one limit: that on which both agree.
 use Rattle.std.proofs.Common.{◌≡◌, ℕ, ◌≤◌, Bool, true, false, List, refl, ap, sym, ◌∙◌, subst, arith, Some, None}
-use Rattle.std.specs.Prelude.{◌||◌, if◌then◌else◌, nat_eq, is_some}
+use Rattle.std.specs.Prelude.{if◌then◌else◌, nat_eq, is_some}
 use Rattle.std.proofs.lemmas.Bool.{eqb-true}
 use Rattle.std.proofs.lemmas.Bool.Decides.{nat_tests}
 use Rattle.xp_base.specs.declared.session.Session.{Session}

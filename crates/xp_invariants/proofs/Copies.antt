@@ -36,7 +36,7 @@ use Rattle.xp_base.specs.declared.answer.RegisterAnswer.TheVariants.{Ok as Regis
 use Rattle.xp_base.specs.declared.answer.UnregisterAnswer.TheVariants.{Ok as UnregisterOk, NotRegistered}
 use Rattle.xp_protocol.specs.Rules.{Can, here_of, mark_of, peer_numbered, after_answer}
 use Rattle.xp_protocol.specs.Runs.{turned, moment_by}
-use Rattle.xp_protocol.specs.State.{State, each, End, Size, Contact, Reading, Old, Peer, cold_peer, idle_end, idle_links, link_at, link_of, is_begun, end_of, peer_of}
+use Rattle.xp_protocol.specs.State.{State, each, End, Size, Contact, Reading, Old, Peer, cold_peer, idle_end, idle_links, link_at, link_of, end_of, peer_of}
 use Rattle.xp_protocol.proofs.Frames.{cond_peer, wanted_at, idle_at}
 use Rattle.xp_protocol.proofs.Slots.{at_each, at_peer, at_slot}
 use Rattle.xp_meetings.proofs.Meets.{can_numbered}

@@ -3,6 +3,8 @@ pub mod Clear
 pub mod Copies
 pub mod Standing
 pub mod Onward
+pub mod Stance
+pub mod Judged
 pub mod Recorded
 pub mod HostStays
 pub mod OldBits

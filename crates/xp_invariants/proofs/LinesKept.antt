@@ -19,9 +19,7 @@ use Rattle.xp_protocol.specs.Decode.{rule_of}
 use Rattle.xp_protocol.specs.Promised.{IsLine, Name, name_of, exchanged, by_name, first_named, accepted_of, acked_of, records_of, memory_by, word_of, known_acted, size_got, size_sent}
 use Rattle.xp_protocol.specs.Linking.{agreed}
 use Rattle.xp_protocol.specs.Reached.{ReachedWords, state_at}
-use Rattle.xp_protocol.specs.Pulling.{Pulling}
 use Rattle.xp_protocol.specs.Records.{Recorded}
-use Rattle.xp_protocol.specs.Sending.{Sending}
 use Rattle.xp_protocol.specs.Rules.{op_of, row_of, owner}
 use Rattle.xp_protocol.specs.Runs.{MayMake}
 use Rattle.xp_protocol.specs.State.{State, Contact, End, end_of, peer_of, may_copy, is_begun}
@@ -40,7 +38,7 @@ use Rattle.xp_promises.proofs.Lines.{Area, area_at, five, control, View, view, L
 use Rattle.xp_promises.proofs.Rests.{in_side}
 use Rattle.xp_promises.proofs.Ring.{mod_less, within_times}
 use Rattle.xp_promises.proofs.Reuses.{whole_both, other_acked}
-use Rattle.xp_promises.proofs.Steps.{Open, open_copy, got_at, sent_at}
+use Rattle.xp_promises.proofs.Steps.{Open, open_copy, got_at}
 use Rattle.xp_promises.proofs.Versions.{versions_kept}
 use Rattle.xp_promises.proofs.Ways.{out_of, in_of}
 use Rattle.xp_invariants.specs.Between.{word_after, IsStepBy}
@@ -49,6 +47,7 @@ use Rattle.xp_invariants.specs.Limits.{HaveOneLimit, Limits}
 use Rattle.xp_invariants.specs.Lines.{get_word, put_word, message, IsReceived, HoldMessages, AreCopied, IsSent, IsCounterRule, StoresCounter, Lines}
 use Rattle.xp_invariants.proofs.Agreed.{known_size, has_agreed, one_limit}
 use Rattle.xp_invariants.proofs.Counted.{counter_kept}
+use Rattle.xp_invariants.proofs.Judged.{judged}
 use Rattle.xp_invariants.proofs.Onward.{step_state}
 use Rattle.xp_invariants.proofs.Standing.{Standing, lawful, reached_by, before_stands, known_at}
 
@@ -382,6 +381,7 @@ limits_kept s law h m r = record {
   one_limit = λ p q c l. (let P : State → State → Type 0 = λ a b. may_copy (end_of a q c) ≡ true → InContact (end_of b p c) → HaveOneLimit (end_of a q c) (end_of b p c) in
       both p q P (λ may there. limits_now s law h m r p q c l may there));
   versions = versions_kept s law h (memory_by (opening s) h) (reached s law h m r);
+  judged = λ p q c l. judged s law p q c l.first l.second l.apart h m r;
 }
   where
     both : (p q : ℕ) (P : State → State → Type 0) → P (part_at s h p).state (part_at s h q).state → P (state_at s h p) (state_at s h q)

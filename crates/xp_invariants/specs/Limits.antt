@@ -4,12 +4,13 @@ use Rattle.std.specs.Prelude.{◌≡◌, ℕ, true, false, is_some, List}
 use Rattle.xp_base.specs.Entries.{lines}
 use Rattle.xp_base.specs.History.{Event}
 use Rattle.xp_script.specs.declared.scenario.Scenario.{Scenario}
-use Rattle.xp_script.specs.Opening.{opening}
+use Rattle.xp_script.specs.Opening.{opening, version_word}
+use Rattle.xp_script.specs.Settings.{minor_of}
 use Rattle.xp_protocol.specs.Linking.{agreed}
 use Rattle.xp_protocol.specs.Parts.{IsRequestSize}
 use Rattle.xp_protocol.specs.Promised.{IsLine, VersionsStand, memory_by, size_got, size_sent}
 use Rattle.xp_protocol.specs.Pulling.{lesser}
-use Rattle.xp_protocol.specs.State.{End, may_copy}
+use Rattle.xp_protocol.specs.State.{End, are_new, may_copy}
 use Rattle.xp_invariants.specs.Flags.{end_at, InContact}
 
 -- one limit on all four sides of two ends, the queues of each as the other reads them, and a size
@@ -49,5 +50,9 @@ pub record Limits (s : Scenario) (h : List Event) : Type 0 where
   -- and so have two of which one may copy the other's words
   pub one_limit : (p q c : ℕ) → IsLine s p q c → may_copy (end_at s h p q c) ≡ true →
       InContact (end_at s h q p c) → HaveOneLimit (end_at s h p q c) (end_at s h q p c)
-  -- each partition's version word is the scenario's at any time, so both judge by the same two
+  -- each partition's version word is the scenario's at any time, and an end in contact judges by its
+  -- own and its partner's: so both judge alike
   pub versions : VersionsStand s (memory_by (opening s) h)
+  pub judged : (p q c : ℕ) → IsLine s p q c → InContact (end_at s h p q c) →
+      (end_at s h p q c).shake.both_new
+      ≡ are_new (version_word (minor_of p s.minors)) (version_word (minor_of q s.minors))

@@ -204,10 +204,10 @@ module _ (s : Scenario) (law : IsLawful s) where
   abbrev own : ℕ → ℕ
   own p = version_of (part_of s p) p
 
-  own_version : (p : ℕ) → own p ≡ version p
+  pub own_version : (p : ℕ) → own p ≡ version p
   own_version p = ap version_word (minor_kept (is_minor_for p (links_of s p)) p (λ m e. ap (λ (b : Bool). b || list_any (is_link_to m.part) (links_of s p)) (eq-eqb m.part p e)) s.minors)
 
-  linked_version : (p q : ℕ) → is_linked (links_of s p) q ≡ true → version_of (part_of s p) q ≡ version q
+  pub linked_version : (p q : ℕ) → is_linked (links_of s p) q ≡ true → version_of (part_of s p) q ≡ version q
   linked_version p q t =
       ap version_word (minor_kept (is_minor_for p (links_of s p)) q (λ m e. or_right (eqb m.part p) (list_any (is_link_to m.part) (links_of s p)) (subst (λ (k : ℕ). list_any (is_link_to k) (links_of s p) ≡ true) (sym e) (any_linked (links_of s p) q ∙ t))) s.minors)
 
