@@ -40,7 +40,7 @@ use Rattle.xp_protocol.specs.Acts.{say, refused_send, send_begun, take_begun, re
 use Rattle.std.proofs.lemmas.Bool.{and_parts}
 use Rattle.xp_protocol.specs.Sending.{closed_send}
 use Rattle.xp_protocol.specs.Pulling.{closed_take}
-use Rattle.xp_protocol.specs.Linking.{closed_more, closed_release, closed_drain}
+use Rattle.xp_protocol.specs.Linking.{closed_more, closed_release, closed_drain, limit_in}
 use Rattle.xp_counts.specs.Counted.{EndCounts, counts_of, AreEndCounts, IsEndCounted}
 
 -- the counts of an end keep so far, whatever changes it
@@ -147,8 +147,8 @@ closed_one (Some reason) reasons = omega (arith, length-append reasons (reason �
 pub idle_counted : (n : ℕ) → IsEndCounted n idle_end
 idle_counted n = record { epochs = omega arith; put = omega arith; remote_get = omega arith; taken = omega arith; held = omega arith; local_get = omega arith; closed = omega arith; closed_asked = omega arith }
 
-pub warm_counted : (n part : ℕ) (l : Link) → IsEndCounted n (warm_end part l)
-warm_counted n part l = record { epochs = omega arith; put = omega arith; remote_get = omega arith; taken = omega arith; held = omega arith; local_get = omega arith; closed = omega arith; closed_asked = omega arith }
+pub warm_counted : (n : ℕ) (new : Bool) (l : Link) → IsEndCounted n (warm_end new l)
+warm_counted n new l = record { epochs = omega arith; put = omega arith; remote_get = omega arith; taken = omega arith; held = omega arith; local_get = omega arith; closed = omega arith; closed_asked = omega arith }
 
 -- an end is fresh: its epochs and closed connections are given
 fresh_low : (n : ℕ) (shake : Shake) (epoch : ℕ) (e : End) → shake.sent.close_reply ≡ false → epoch ≤ n → length (closed_more e.shake.reason e.closed) ≤ n → IsEndCounted n e → IsEndCounted n (fresh_end shake epoch e)
@@ -193,7 +193,7 @@ module _ (n : ℕ) where
       fresh_low n (epoch_over e).local.shake (e.epoch + 1) e refl one.0 (let l = closed_one e.shake.reason e.closed in let m = one.1 in omega (arith, l, m)) h
 
   unequals : (e : End) → Keeps e (unequal e)
-  unequals e = either (are_unequal e) e (channel_closed (UnequalSizes e.sides.send.limit e.sides.pull.limit) e) (just e) (closes (UnequalSizes e.sides.send.limit e.sides.pull.limit) e) (λ h. h)
+  unequals e = either (are_unequal e) e (channel_closed (UnequalSizes (limit_in e.shake.own_size) (limit_in e.shake.their_size)) e) (just e) (closes (UnequalSizes (limit_in e.shake.own_size) (limit_in e.shake.their_size)) e) (λ h. h)
 
   changes : (e : End) → Keeps e (changed e)
   changes e = by (is_ended e) refl where
@@ -205,7 +205,7 @@ module _ (n : ℕ) where
   requests : (o : Option ℕ) (e : End) → Keeps e (request_handled o e)
   requests None e = λ h. h
   requests (Some w) e =
-      let sized : Effect End (List Note) = just (record e { sides = record e.sides { pull = record e.sides.pull { entries = (size_in w).entries; limit = (size_in w).limit; copied = []; run = 0 } } }) in
+      let sized : Effect End (List Note) = just (record e { shake = record e.shake { their_size = Some (size_in w) } }) in
       either (is_request w) e sized (channel_closed (BadArgs w) e) (λ h. h) (closes (BadArgs w) e)
 
   replies : (o : Option Replied) (e : End) → Keeps e (reply_handled o e)
@@ -333,9 +333,9 @@ module _ (n : ℕ) where
 
   -- a flag is sent
   sent : (k : Kind) (e : End) → IsEndCounted n e → IsEndCounted (n + 1) (end_sent k e)
-  sent OpenRequest e h = let k = more e h in with_get (n + 1) 0 (record (counts_of e) { put = 0 }) (omega arith) (with_put (n + 1) 0 (counts_of e) (omega arith) k)
+  sent OpenRequest e h = more e h
   sent OpenReply e h = more e h
-  sent OpenComplete e h = more e h
+  sent OpenComplete e h = let k = more e h in record { epochs = k.epochs; put = omega arith; remote_get = omega arith; taken = omega arith; held = k.held; local_get = k.local_get; closed = k.closed; closed_asked = k.closed_asked }
   sent CloseRequest e h = more e h
   sent CloseReply e h = let k = more e h in let a = h.epochs in let b = h.closed in record { epochs = omega (arith, a); put = k.put; remote_get = k.remote_get; taken = k.taken; held = k.held; local_get = k.local_get; closed = omega (arith, b); closed_asked = k.closed_asked }
   sent MsgRequest e h = more e h
@@ -375,8 +375,8 @@ module _ (n : ℕ) where
   pub finishes : (e : End) → Raises e (link_finished e)
   finishes e h = fresh_low (n + 1) no_shake 0 e refl (omega arith) (let l = closed_one e.shake.reason e.closed in let m = h.closed in omega (arith, l, m)) (more e h)
 
-  pub joins : (m : Contact) (e : End) → Raises e (link_joined m e)
-  joins m e h = let l = h.closed in let k = h.closed_asked in record { epochs = omega arith; put = omega arith; remote_get = omega arith; taken = omega arith; held = omega arith; local_get = omega arith; closed = omega (arith, l); closed_asked = omega (arith, k) }
+  pub joins : (new : Bool) (m : Contact) (e : End) → Raises e (link_joined new m e)
+  joins new m e h = let l = h.closed in let k = h.closed_asked in record { epochs = omega arith; put = omega arith; remote_get = omega arith; taken = omega arith; held = omega arith; local_get = omega arith; closed = omega (arith, l); closed_asked = omega (arith, k) }
 
   -- a command is answered
   takes_found : (e : End) (b : Bool) (t : Option Bool) (empty : Option ℕ) (cache : List (List ℕ)) → Raises e (taken_by (cond b (found_by t (record e.sides.pull { empty = empty; cache = cache })) None) e)

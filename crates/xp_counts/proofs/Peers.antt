@@ -12,7 +12,7 @@ use Rattle.xp_protocol.specs.declared.rule.PeerRule.TheVariants.{AskActivation, 
 use Rattle.xp_protocol.specs.Effects.{Effect, Note}
 use Rattle.xp_protocol.specs.State.{End, Peer, Reading, Area, cold_peer, idle_end, link_at}
 use Rattle.xp_protocol.specs.Linking.{link_down, link_finished, link_joined, flags_got, booted_end}
-use Rattle.xp_protocol.specs.Peering.{Here, all_links, same_peer, is_bad_flags, area_left_for, left_engage, contact_made, contact_of, try_contact, record_read, peer_effect, area_off, freed_engage, peer_read, deactivation_heard, is_left, is_flagged, is_magic, is_wrong, has_shown, with_reason, peer_failed, booted_peer}
+use Rattle.xp_protocol.specs.Peering.{Here, all_links, with_flags, same_peer, is_bad_flags, area_left_for, left_engage, contact_made, contact_of, try_contact, record_read, peer_effect, area_off, freed_engage, peer_read, deactivation_heard, is_left, is_flagged, is_magic, is_wrong, has_shown, with_reason, peer_failed, booted_peer}
 use Rattle.xp_protocol.specs.Rules.{peer_numbered}
 use Rattle.xp_protocol.proofs.Frames.{idle_at}
 use Rattle.xp_protocol.proofs.Slots.{at_each, at_slot}
@@ -53,7 +53,7 @@ module _ (n : ℕ) where
 
   meets : (stamp : ℕ) (z : Peer) → IsPeerCounted n z → On (try_contact stamp z).local
   meets stamp z h = either (z.engage.second && (z.engage.shown && not (is_some z.contact))) (contact_made stamp z) (same_peer z)
-      (each_links (λ c e. link_joined (contact_of stamp z.engage) e) (record z { contact = Some (contact_of stamp z.engage); engage = record z.engage { state = Active } }) (λ c e. joins n (contact_of stamp z.engage) e) (record { count = h.count; cleared = h.cleared; ends = h.ends })) (up z h)
+      (each_links (λ c e. link_joined z.both_new (contact_of stamp z.engage) e) (record z { contact = Some (contact_of stamp z.engage); engage = record z.engage { state = Active } }) (λ c e. joins n z.both_new (contact_of stamp z.engage) e) (record { count = h.count; cleared = h.cleared; ends = h.ends })) (up z h)
 
   -- only the engagement changes, and no count of it
   calm : (p x : Peer) → x.engage.count ≡ p.engage.count → x.engage.cleared_at ≡ p.engage.cleared_at → x.links ≡ p.links → IsPeerCounted n p → On x
@@ -83,7 +83,7 @@ module _ (n : ℕ) where
 
   pub peered : (y : Here) (p : Peer) (m : PeerRule) (w : ℕ) → y.turn ≤ n + 1 → IsPeerCounted n p → On (peer_effect y p m w).local
   peered y p AskActivation w l h = calm p _ refl refl refl h
-  peered y p TakeFlags w l h = either (is_bad_flags w) _ _ (up p h) (each_links (λ c e. flags_got (kinds_in w c) e) p (λ c e k. takes (n + 1) (kinds_in w c) e (more_end n (n + 1) e (omega arith) k)) h)
+  peered y p TakeFlags w l h = either (is_bad_flags w) _ _ (up p h) (each_links (λ c e. flags_got (kinds_in w c) e) (with_flags w p) (λ c e k. takes (n + 1) (kinds_in w c) e (more_end n (n + 1) e (omega arith) k)) (still p _ refl refl refl h))
   peered y p CloseArea w l h = left p.engage.reason p h
   peered y p ZeroMagic w l h = calm p _ refl refl refl h
   peered y p ClearOldBit w l h = calm p _ refl refl refl h

@@ -19,7 +19,7 @@ use Rattle.xp_protocol.specs.declared.rule.OwnRule.TheVariants.{ReadEngaged, Tak
 use Rattle.xp_protocol.specs.declared.rule.Rule.{Rule}
 use Rattle.xp_protocol.specs.declared.rule.Rule.TheVariants.{Link as ForLink, Peer as ForPeer, Own}
 use Rattle.xp_protocol.specs.Effects.{Copied}
-use Rattle.xp_protocol.specs.State.{State, Clock, Script, Copies, Peer, End, Old, cold_peer, idle_end, peer_at, peer_of, end_of, warm_end, warm_peer, base_peer, first_peers, opened_peers, opened_state}
+use Rattle.xp_protocol.specs.State.{State, Clock, Script, Copies, Peer, End, Old, cold_peer, idle_end, peer_at, peer_of, end_of, warm_end, warm_peer, first_met, opened_new, each, link_at, base_peer, first_peers, opened_peers, opened_state}
 use Rattle.xp_protocol.specs.Peering.{peer_read, deactivation_heard, booted_peer}
 use Rattle.xp_protocol.specs.Rules.{here_of, mark_of, place_for, row_of, after_answer, peer_numbered, peer_answered, link_answered, puts_after, one_more, counted}
 use Rattle.xp_protocol.specs.Decode.{rule_of}
@@ -229,22 +229,26 @@ first_counted n ls q = by (cases_lt q n) where
   by (inl l) = subst (IsPeerCounted 1) (sym (get_or-replicate n q (base_peer ls) (cold_peer Old) l)) (base_counted ls)
   by (inr l) = subst (IsPeerCounted 1) (sym (get_or_past (replicate n (base_peer ls)) q (cold_peer Old) (omega (arith, length-replicate {A = Peer} n (base_peer ls), l)))) (cold_counted 0 1 Old)
 
-warm_peer_counted : (part : ℕ) (l : Link) (p : Peer) → IsPeerCounted 1 p → IsPeerCounted 1 (warm_peer part l p)
-warm_peer_counted part l p h = record {
+met_counted : (new : Bool) (e : End) → IsEndCounted 1 e → IsEndCounted 1 (first_met new e)
+met_counted new e h = h
+
+warm_peer_counted : (new : Bool) (l : Link) (p : Peer) → IsPeerCounted 1 p → IsPeerCounted 1 (warm_peer new l p)
+warm_peer_counted new l p h = record {
   count = omega arith;
   cleared = λ turn e. absurd (cc);
-  ends = λ c. at_slot (λ (x : End). IsEndCounted 1 x) p.links l.channel c (warm_end part l) idle_end (λ e. warm_counted 1 part l) (h.ends c);
+  ends = λ c. at_slot (λ (x : End). IsEndCounted 1 x) (each (λ i e. first_met new e) 0 p.links) l.channel c (warm_end new l) idle_end (λ e. warm_counted 1 new l)
+      (at_each (λ (x : End). IsEndCounted 1 x) (λ i e. first_met new e) p.links c idle_end (met_counted new (link_at p.links c) (h.ends c)) (λ k. idle_counted 1));
 }
 
-links_counted : (part : ℕ) (ls : List Link) (peers : List Peer) → ((q : ℕ) → IsPeerCounted 1 (peer_at peers q)) → (q : ℕ) → IsPeerCounted 1 (peer_at (opened_peers part ls peers) q)
-links_counted part [] peers h q = h q
-links_counted part (l ∷ ls) peers h q = links_counted part ls (set peers l.partner (warm_peer part l (peer_at peers l.partner))) (λ j. at_peer (IsPeerCounted 1) peers l.partner (warm_peer part l (peer_at peers l.partner)) j (λ e. warm_peer_counted part l (peer_at peers l.partner) (h l.partner)) (h j)) q
+links_counted : (new : ℕ → Bool) (ls : List Link) (peers : List Peer) → ((q : ℕ) → IsPeerCounted 1 (peer_at peers q)) → (q : ℕ) → IsPeerCounted 1 (peer_at (opened_peers new ls peers) q)
+links_counted new [] peers h q = h q
+links_counted new (l ∷ ls) peers h q = links_counted new ls (set peers l.partner (warm_peer (new l.partner) l (peer_at peers l.partner))) (λ j. at_peer (IsPeerCounted 1) peers l.partner (warm_peer (new l.partner) l (peer_at peers l.partner)) j (λ e. warm_peer_counted (new l.partner) l (peer_at peers l.partner) (h l.partner)) (h j)) q
 
 opened_counted : (s : ScenarioPart) → AreCounted 1 (opened_state s)
 opened_counted s = record {
   clock = record { boots = omega arith; turns = omega arith; puts = omega arith; copies = record { pages = omega arith; records = omega arith; args = omega arith; counters = omega arith; get = omega arith; entries = omega arith } };
   script = record { begun = omega arith; since = omega arith };
-  peers = λ q. links_counted s.part s.links (first_peers s.count s.links) (λ j. first_counted s.count s.links j) q;
+  peers = λ q. links_counted (opened_new s) s.links (first_peers s.count s.links) (λ j. first_counted s.count s.links j) q;
 }
 
 pub start_counted : (s : ScenarioPart) → AreCounted 2 (start s)
