@@ -245,9 +245,9 @@ impl ChannelEnd {
         }
     }
 
-    /// Makes room for all that the calls of one turn append: every step of the turn may be made then,
-    /// also one that opens the channel. After want of memory the end is as before, but for its room,
-    /// of which none is lost.
+    /// Makes room for all that the calls of one turn append: every step of the turn may be made
+    /// then, also one that opens the channel. After want of memory the end is as before, but for its
+    /// room, of which none is lost.
     pub fn reserve(&mut self) -> Result<(), AllocError>
         ensures ok { OnOk result (HasTurnRoom self.new) }
         ensures room { OnOk result (HasRoom self.new) }

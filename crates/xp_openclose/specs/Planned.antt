@@ -1,5 +1,5 @@
--- Which control flag a handshake sends next, what its calls make of it, and what always holds of its
--- flags and sizes.
+-- Which control flag a handshake sends next, what its calls make of it, and what always holds of
+-- its flags and sizes.
 use Rattle.std.specs.Prelude.{◌≡◌, Bool, true, false, if◌then◌else◌, Option, Some, None, is_some}
 use Rattle.xp_base.specs.declared.link.Kind.{Kind}
 use Rattle.xp_base.specs.declared.link.Kind.TheVariants.{CloseRequest, CloseReply, OpenRequest, OpenReply, OpenComplete, MsgRequest}
@@ -21,8 +21,8 @@ abbrev pub is_control : Kind → Bool
 is_control MsgRequest = false
 is_control k = true
 
--- a control flag is sent, where the channel is registered for a size or isn't: with the open request
--- that is the size that is asked for
+-- a control flag is sent, where the channel is registered for a size or isn't: with the open
+-- request that is the size that is asked for
 abbrev pub size_after : Kind → Option Size → Option Size → Option Size
 size_after OpenRequest registration size = registration
 size_after k registration size = size

@@ -328,8 +328,8 @@ impl Handshake {
         limit_of(self.their_size)
     }
 
-    /// The sizes of the own queue and of the partner's in this epoch: the entries that each end asks
-    /// for, and the limit that is agreed.
+    /// The sizes of the own queue and of the partner's in this epoch: the entries that each end
+    /// asks for, and the limit that is agreed.
     #[tactic(auto, using(crate::proofs::Order::lawful_left, crate::proofs::Order::lawful_right))]
     pub fn queue_sizes(&self) -> (Size, Size)
         requires { self.now.sent.open_reply ≡ true }
@@ -458,8 +458,8 @@ impl Handshake {
         }
     }
 
-    /// A kind that was taken is handled: it is got. An open request is marked so where it is refused
-    /// and the channel closes for it, and else by `accept_request`.
+    /// A kind that was taken is handled: it is got. An open request is marked so where it is
+    /// refused and the channel closes for it, and else by `accept_request`.
     pub fn mark_got(&mut self, kind: Kind)
         requires { kind ≡ Kind.OpenRequest → is_some self.old.reason ≡ true }
         ensures shake { self.new ≡ shake_got kind self.old }
@@ -499,8 +499,8 @@ impl Handshake {
     }
 
     /// A control flag was sent that was owed, where the channel is registered for a size or isn't.
-    /// With the open request that is the size that this end asks for in this epoch. A message request
-    /// that was sent is `owe_message`.
+    /// With the open request that is the size that this end asks for in this epoch. Of a message
+    /// request that was sent `owe_message` is told.
     #[tactic(auto, using(crate::proofs::Order::unsent))]
     pub fn mark_sent(&mut self, kind: Kind, registration: Option<Size>, copying: bool)
         requires control { is_control kind ≡ true }
