@@ -1,7 +1,9 @@
-//! Tests of the machines over the whole protocol: the two sides of a channel, and the rounds
-//! of a partition.
+//! Tests of the machines over the whole protocol: the two sides of a channel, the rounds of a
+//! partition, and its planner.
 #![tactic(auto)]
 
+#[cfg(test)]
+mod planner;
 #[cfg(test)]
 mod pull_side;
 #[cfg(test)]
