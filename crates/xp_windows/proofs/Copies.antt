@@ -57,7 +57,6 @@ owing_framed : Framed Owing
 owing_framed = record {
   owed = λ b x h. refl;
   sent = λ b x y h. h;
-  sized = λ b x n m h. h;
   numbers = λ b x ns h. h;
   drains = λ b d x h. h;
   taking = λ b x o put h. h;
@@ -124,7 +123,6 @@ goes_framed : Framed Goes
 goes_framed = record {
   owed = λ b x h. h;
   sent = λ b x y h. h;
-  sized = λ b x n m h. h;
   numbers = λ b x ns h. h;
   drains = λ b d x h. h;
   taking = λ b x o put h. h;
@@ -142,7 +140,6 @@ rests_framed : Framed Rests
 rests_framed = record {
   owed = λ b x h. h;
   sent = λ b x y h. h;
-  sized = λ b x n m h. h;
   numbers = λ b x ns h. h;
   drains = λ b d x h. h;
   taking = λ b x o put h. h;

@@ -29,19 +29,19 @@ use Rattle.xp_protocol.specs.declared.rule.Rule.TheVariants.{Link, Peer as ForPe
 use Rattle.xp_protocol.specs.Effects.{Effect, Note, SendNote, PullNote, BySend, ByPull, just, and_then}
 use Rattle.xp_protocol.specs.Sending.{Sending, ring_effect}
 use Rattle.xp_protocol.specs.Pulling.{Pulling, pull_effect}
-use Rattle.xp_protocol.specs.State.{State, End, each, is_connected, Reading, Peer, PeerGoing, Old, cold_peer, idle_end, idle_links, end_of, peer_at, peer_of, link_at, size_in, set_link, warm_end, warm_peer, opened_peers, base_peer, first_peers, opened_state}
-use Rattle.xp_protocol.specs.Linking.{hear, hears, by_send, by_pull, sender_counters, release_notes, acknowledged, close_now, down_notes, down_end, channel_closed, link_down, link_finished, link_joined, booted_end, epoch_over, is_ended, are_unequal, unequal, changed, kind_left, kind_got, is_request, request_handled, reply_handled, is_code, code_handled, message_got, refused, kind_refused, well_handled, handled, has_argument, handled_next, settle, settled, with_taken, flags_got, end_sent, control_sent, flag_sent, argument_stored, with_argument, link_can, link_effect, copy_failed}
-use Rattle.xp_protocol.specs.Peering.{Here, peer_can, peer_effect, peer_read, deactivation_heard, area_off, same_peer, is_left, is_flagged, is_bad_flags, flags_taken, area_left_for, try_contact, contact_made, contact_of, record_read, has_shown, is_wrong, is_magic, with_reason, copy_ended, peer_failed, booted_peer}
+use Rattle.xp_protocol.specs.State.{State, Size, first_met, End, each, is_connected, Reading, Peer, PeerGoing, Old, cold_peer, idle_end, idle_links, end_of, peer_at, peer_of, link_at, size_in, set_link, warm_end, warm_peer, opened_peers, base_peer, first_peers, opened_state}
+use Rattle.xp_protocol.specs.Linking.{hear, hears, by_send, by_pull, sender_counters, release_notes, acknowledged, close_now, down_notes, down_end, channel_closed, link_down, link_finished, link_joined, booted_end, epoch_over, is_ended, limit_in, are_unequal, unequal, changed, kind_left, kind_got, is_request, request_handled, reply_handled, is_code, code_handled, message_got, refused, kind_refused, well_handled, handled, has_argument, handled_next, settle, settled, with_taken, flags_got, end_sent, control_sent, flag_sent, argument_stored, with_argument, link_can, link_effect, copy_failed}
+use Rattle.xp_protocol.specs.Peering.{Here, peer_can, peer_effect, peer_read, deactivation_heard, area_off, same_peer, is_left, is_flagged, with_flags, is_bad_flags, flags_taken, area_left_for, try_contact, contact_made, contact_of, record_read, has_shown, is_wrong, is_magic, with_reason, end_reason, copy_ended, peer_failed, booted_peer}
 use Rattle.xp_protocol.specs.Rules.{Can, numbered, link_answered, end_failed, place_for, here_of, mark_of, peer_answered, after_answer}
 use Rattle.xp_protocol.specs.Acts.{Aim, aimed, with_aim, command_begun, after_act, after_acts}
 use Rattle.xp_protocol.specs.Decode.{rule_of}
 use Rattle.xp_protocol.specs.Runs.{May, MayMake, MayStep, after_ruled, after_step, after_turn, acted, turn_counted, moment, moment_by, restart_comes, stop_comes, is_over, start}
 use Rattle.xp_protocol.proofs.Slots.{at_each, at_slot, at_peer}
 use Rattle.xp_protocol.proofs.Frames.{cond_peer, wanted_at, idle_at}
+use Rattle.xp_protocol.proofs.Opened.{opened_fact}
 use Rattle.xp_windows.specs.Windows.{middle}
 use Rattle.xp_windows.specs.Visited.{rule_by, rule_made}
 use Rattle.xp_windows.proofs.Keeps.{ActsKeep, acts_keep}
-use Rattle.xp_windows.proofs.PeerFrames.{opened_has}
 
 -- what a fact of an end has to stand; N says what is known of a step at the end besides
 pub record EndKeeps (N : End → LinkRule → Type 0) (P : End → Type 0) : Type 0 where
@@ -53,7 +53,7 @@ pub record EndKeeps (N : End → LinkRule → Type 0) (P : End → Type 0) : Typ
   pub got : (k : Kind) (e : End) → refused k e ≡ false → P e → P (kind_got k e)
   pub dropped : (e : End) → P e → P (record e { shake = record e.shake { taken = without MsgRequest e.shake.taken } })
   pub owing : (e : End) → P e → P (record e { sides = record e.sides { pull = record e.sides.pull { owed = true } } })
-  pub sized : (e : End) (n m : ℕ) → P e → P (record e { sides = record e.sides { pull = record e.sides.pull { entries = n; limit = m; copied = []; run = 0 } } })
+  pub sized : (e : End) (size : Option Size) → P e → P (record e { shake = record e.shake { their_size = size } })
   pub taken : (ks : Kinds) (e : End) → P e → P (with_taken ks e)
   pub sent : (k : Kind) (e : End) → link_can e (SetFlag k) → N e (SetFlag k) → P e → P (end_sent k e)
   pub told : (e : End) → N e (SetFlag MsgRequest) → P e → P (flag_sent MsgRequest e).local
@@ -67,7 +67,7 @@ pub record EndKeeps (N : End → LinkRule → Type 0) (P : End → Type 0) : Typ
   pub failed : (kind : CopyKind) (e : End) (m : LinkRule) → N e m → P e → P (copy_failed kind e)
   pub leaves : (reason : Reason) (e : End) → P e → P (link_down reason e).local
   pub finishes : (e : End) → P e → P (link_finished e).local
-  pub joins : (m : Contact) (e : End) → P e → P (link_joined m e).local
+  pub joins : (new : Bool) (m : Contact) (e : End) → P e → P (link_joined new m e).local
   pub boots : (e : End) → P e → P (booted_end e)
   pub idle : P idle_end
 
@@ -84,8 +84,8 @@ module _ (N : End → LinkRule → Type 0) (P : End → Type 0) (z : EndKeeps N 
   channel : (reason : Reason) (e : End) → P e → P (channel_closed reason e).local
   channel reason e h = closes e.shake.reason reason e refl h
 
-  unequals : (b : Bool) (e : End) → P e → P (if b then channel_closed (UnequalSizes e.sides.send.limit e.sides.pull.limit) e else just e).local
-  unequals true e h = channel (UnequalSizes e.sides.send.limit e.sides.pull.limit) e h
+  unequals : (b : Bool) (e : End) → P e → P (if b then channel_closed (UnequalSizes (limit_in e.shake.own_size) (limit_in e.shake.their_size)) e else just e).local
+  unequals true e h = channel (UnequalSizes (limit_in e.shake.own_size) (limit_in e.shake.their_size)) e h
   unequals false e h = h
 
   changes : (b : Bool) (e : End) → is_ended e ≡ b → P e → P (if b then epoch_over e else unequal e).local
@@ -100,10 +100,8 @@ module _ (N : End → LinkRule → Type 0) (P : End → Type 0) (z : EndKeeps N 
   messages true e h = z.owing e h
   messages false e h = h
 
-  request_by : (b : Bool) (w : ℕ) (e : End) → P e → P (if b then just (record e {
-    sides = record e.sides { pull = record e.sides.pull { entries = (size_in w).entries; limit = (size_in w).limit; copied = []; run = 0 } };
-  }) else channel_closed (BadArgs w) e).local
-  request_by true w e h = z.sized e (size_in w).entries (size_in w).limit h
+  request_by : (b : Bool) (w : ℕ) (e : End) → P e → P (if b then just (record e { shake = record e.shake { their_size = Some (size_in w) } }) else channel_closed (BadArgs w) e).local
+  request_by true w e h = z.sized e (Some (size_in w)) h
   request_by false w e h = channel (BadArgs w) e h
 
   requested : (o : Option ℕ) (e : End) → P e → P (request_handled o e).local
@@ -198,14 +196,14 @@ module _ (N : End → LinkRule → Type 0) (P : End → Type 0) (z : EndKeeps N 
 
     flags_leave : (b : Bool) (w : ℕ) (p : Peer) → In p → In (if b then record { local = p; reason = Some (BadFlags w); notes = λ d. [] } else flags_taken w p).local
     flags_leave true w p h = h
-    flags_leave false w p h = each_keeps (λ d e. flags_got (kinds_in w d) e) p (λ e i. flags_keep (kinds_in w c) e i) h
+    flags_leave false w p h = each_keeps (λ d e. flags_got (kinds_in w d) e) (with_flags w p) (λ e i. flags_keep (kinds_in w c) e i) h
 
     left_leave : (o : Option Reason) (p : Peer) → In p → In (area_left_for o p).local
     left_leave None p h = h
     left_leave (Some r) p h = each_keeps (λ d e. link_down r e) p (λ e i. z.leaves r e i) h
 
     contact_leave : (stamp : ℕ) (p : Peer) → In p → In (try_contact stamp p).local
-    contact_leave stamp p h = cond_peer In (p.engage.second && (p.engage.shown && not (is_some p.contact))) (contact_made stamp p) (same_peer p) (each_keeps (λ d e. link_joined (contact_of stamp p.engage) e) p (λ e i. z.joins (contact_of stamp p.engage) e i) h) h
+    contact_leave stamp p h = cond_peer In (p.engage.second && (p.engage.shown && not (is_some p.contact))) (contact_made stamp p) (same_peer p) (each_keeps (λ d e. link_joined p.both_new (contact_of stamp p.engage) e) p (λ e i. z.joins p.both_new (contact_of stamp p.engage) e i) h) h
 
     read_leave : (y : Here) (p : Peer) (o : Option Reading) (w : ℕ) → In p → In (record_read y p o w).local
     read_leave y p None w h = cond_peer In (nat_eq w 0) _ _ h (cond_peer In (is_magic w) _ _ h h)
@@ -263,7 +261,7 @@ module _ (N : End → LinkRule → Type 0) (P : End → Type 0) (z : EndKeeps N 
       rule_leaves st (Link k d m) a can n h =
           let mark = mark_of s st (Link k d m) in
           let g = link_answered mark (place_for s d) (end_of st k d) m a in
-          at_peer In st.peers k (with_reason g.reason (set_link (numbered mark d (peer_of st k)) d g.local)) q
+          at_peer In st.peers k (with_reason (end_reason (peer_of st k).flags_seen g.reason) (set_link (numbered mark d (peer_of st k)) d g.local)) q
           (λ e. at_slot P (peer_of st k).links d c g.local idle_end (λ i. new e i) (subst (λ (j : ℕ). Ends' j) e h)) h
         where
           Ends' : ℕ → Type 0
@@ -294,8 +292,8 @@ module _ (N : End → LinkRule → Type 0) (P : End → Type 0) (z : EndKeeps N 
       moment_leaves earlier st h = moment_by_leaves (restart_comes s earlier st && not (is_over st)) (stop_comes s earlier st && not (is_over st)) st h
 
       -- the opening
-      pub start_has : ((l : ScenarioLink) → P (warm_end s.part l)) → Ends (start s)
-      start_has warm = moment_leaves 0 (opened_state s) (opened_has In s q (λ ls. cold) (λ l p h. at_slot P p.links l.channel c (warm_end s.part l) idle_end (λ e. warm l) h) cold)
+      pub start_has : ((new : Bool) → P (first_met new idle_end)) → ((new : Bool) (l : ScenarioLink) → P (warm_end new l)) → Ends (start s)
+      start_has met warm = moment_leaves 0 (opened_state s) (opened_fact s q c P z.idle met warm)
 
       -- a turn, of whose step the rule is known
       pub turn_leaves : (st : State) (t : Turn) → May s st t → ((r : Rule) → rule_made s (middle s st t) t ≡ Some r → (m : LinkRule) → r ≡ Link q c m → N (end_of (middle s st t) q c) m) → Ends st → Ends (after_turn s st t)

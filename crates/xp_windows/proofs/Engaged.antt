@@ -312,4 +312,4 @@ base_stands [] = stands_anew false false true
 base_stands (l ∷ ls) = record { free_echo = λ a e. absurd (cc); out_echo = λ a e. absurd (cc); second = λ a e. absurd (cc); met = λ e. absurd (cc); active = λ e. absurd (cc); idle = λ e n. inl refl; free_bit = λ a. refl; old_bit = λ a. absurd (cc); wanted = λ a r. absurd (cc); back = λ e. absurd (cc) }
 
 pub stands_first : (s : ScenarioPart) (q : ℕ) → Stands (peer_of (start s) q)
-stands_first s q = moment_leaves Stands s q 0 (opened_state s) (λ p. stands_anew false false true) (stands_anew true true true) (opened_has (λ (p : Peer). Stands p × (p.wanted ≡ true)) s q (λ ls. (base_stands ls, refl)) (λ l p h. (record { free_echo = λ a e. absurd (cc); out_echo = λ a e. absurd (cc); second = λ a e. refl; met = λ e. (refl, refl); active = λ e. absurd (cc); idle = λ e n. absurd (cc); free_bit = λ a. absurd (cc); old_bit = λ a. absurd (cc); wanted = λ a r. h.1; back = λ e. absurd (cc) }, h.1)) (stands_anew true true true, refl)).0
+stands_first s q = moment_leaves Stands s q 0 (opened_state s) (λ p. stands_anew false false true) (stands_anew true true true) (opened_has (λ (p : Peer). Stands p × (p.wanted ≡ true)) s q (λ ls. (base_stands ls, refl)) (λ b l p h. (record { free_echo = λ a e. absurd (cc); out_echo = λ a e. absurd (cc); second = λ a e. refl; met = λ e. (refl, refl); active = λ e. absurd (cc); idle = λ e n. absurd (cc); free_bit = λ a. absurd (cc); old_bit = λ a. absurd (cc); wanted = λ a r. h.1; back = λ e. absurd (cc) }, h.1)) (stands_anew true true true, refl)).0

@@ -29,7 +29,7 @@ use Rattle.xp_protocol.specs.declared.rule.Rule.{Rule}
 use Rattle.xp_protocol.specs.declared.rule.Rule.TheVariants.{Peer as ForPeer}
 use Rattle.xp_protocol.specs.Effects.{Effect, Note}
 use Rattle.xp_protocol.specs.Parts.{fails_at}
-use Rattle.xp_protocol.specs.State.{State, base_peer, Life, Up, Old, Ready, Area, Peer, PeerGoing, Engage, Reading, End, cold_peer, link_at, peer_at, peer_of, end_of}
+use Rattle.xp_protocol.specs.State.{State, base_peer, Life, Up, Old, Off, Ready, Leaving, Area, Peer, PeerGoing, Engage, Reading, End, cold_peer, link_at, peer_at, peer_of, end_of}
 use Rattle.xp_protocol.specs.Pulling.{Pulling, is_copying}
 use Rattle.xp_protocol.specs.Peering.{Here, place_read, peer_can, peer_effect, prepared, record_read, try_contact, contact_made, same_peer, area_left_for, is_magic, is_wrong, has_shown, is_bad_flags, any_copied, copies_go_on, copy_ended, with_reason}
 use Rattle.xp_protocol.specs.Rules.{here_of, mark_of, peer_answered, after_answer}
@@ -51,6 +51,8 @@ use Rattle.xp_windows.proofs.PeerFrames.{ActsLeave, StepsLeave, acts_leave, made
 use Rattle.xp_windows.proofs.Planned.{planned_by}
 use Rattle.xp_windows.proofs.Engaged.{Stands, Reads, stands_acts, stands_steps, stands_first, stands_anew}
 use Rattle.xp_windows.proofs.Rests.{Quiet, Rests, Cut, rests_next, rests_first, rests_acts, cut_next, cut_first, acts_cut}
+use Rattle.xp_windows.proofs.Sober.{Sobers, sober_acts, sober_next, sober_first}
+use Rattle.xp_windows.proofs.Stored.{Stored, stored_acts, stored_next, stored_first}
 use Rattle.xp_windows.proofs.Looks.{Tied, Tie, mid_tied, tied_within, asks_on}
 
 -- a copy of a partner's record that goes on has words left
@@ -129,12 +131,87 @@ Whatever p m = Unit {0}
 placed_steps : StepsLeave Whatever Placed
 placed_steps = record { linked = λ p links going some h. h; reasoned = λ o p h. h; ended = λ kind p m n h. placed_ended kind p h; freed = λ p l h. h; steps = λ y p g m w can n h. placed_word y p g m w h }
 
+-- no copy of the record of a partner goes on that is left
+abbrev pub Unread : Peer → Type 0
+Unread p = p.engage.area ≡ Leaving → p.engage.reading ≡ None
+
+unread_acts : ActsLeave Unread
+unread_acts = record { linked = λ p links h. h; unwanted = λ p h. h; wanted = λ p h. h }
+
+ready_unread : (p : Peer) → p.engage.area ≡ Ready → Unread p
+ready_unread p e f = absurd (let g : Ready ≡ Leaving = sym e ∙ f in cc)
+
+left_unread : (o : Option Reason) (p : Peer) → Unread p → Unread (area_left_for o p).local
+left_unread None p h = h
+left_unread (Some r) p h = λ e. refl
+
+prepared_area : (y : AreaWord) (x : Engage) → (prepared y x).area ≡ x.area
+prepared_area SessionWord x = refl
+prepared_area EchoWord x = refl
+prepared_area FlagWord x = refl
+prepared_area (PlaceWord y) x = refl
+prepared_area (ArgsWord d f) x = refl
+prepared_area (CounterWord d f) x = refl
+
+off_unread : (p : Peer) → p.engage.area ≡ Off → Unread p
+off_unread p e f = absurd (let g : Off ≡ Leaving = sym e ∙ f in cc)
+
+contact_unread : (stamp : ℕ) (p : Peer) → p.engage.area ≡ Ready → Unread (try_contact stamp p).local
+contact_unread stamp p e = cond_peer Unread (p.engage.second && (p.engage.shown && not (is_some p.contact))) (contact_made stamp p) (same_peer p) (λ f. ready_unread p e f) (ready_unread p e)
+
+read_unread : (y : Here) (p : Peer) (o : Option Reading) (w : ℕ) → p.engage.area ≡ Ready → Unread (record_read y p o w).local
+read_unread y p None w e = cond_peer Unread (nat_eq w 0) _ _ (ready_unread (record p { engage = record p.engage { back_off = p.engage.back_off || not (is_some p.engage.echo) } }) e) (cond_peer Unread (is_magic w) _ _ (ready_unread (record p { engage = record p.engage { reading = Some (record { done = 1; after_echo = is_some p.engage.echo; magic = w; echo = 0 }) } }) e) (ready_unread p e))
+read_unread y p (Some r) w e =
+    cond_peer Unread (nat_eq r.done 1) _ _ (ready_unread (record p { engage = record p.engage { read = Some w; reading = Some (record r { done = 2 }) } }) e)
+    (cond_peer Unread (nat_eq r.done 2) _ _ (ready_unread (record p { engage = record p.engage { reading = Some (record r { done = 3; echo = w }) } }) e)
+    (cond_peer Unread (nat_eq r.done 7) _ _
+    (cond_peer Unread (has_shown y.stamp p.engage r) _ _ (contact_unread y.stamp (record p { engage = record p.engage { shown = true; reading = None } }) e) (ready_unread (record p { engage = record p.engage { reading = None } }) e))
+    (cond_peer Unread (is_wrong y.part r.done w) _ _ (ready_unread (record p { engage = record p.engage { reading = None } }) e) (ready_unread (record p { engage = record p.engage { reading = Some (record r { done = r.done + 1 }) } }) e))))
+
+unread_word : (y : Here) (p : Peer) (g : PeerGoing) (m : PeerRule) (w : ℕ) → peer_can y p m → Unread p → Unread (peer_effect y (record p { numbers = g }) m w).local
+unread_word y p g AskActivation w can h = h
+unread_word y p g TakeFlags w can h = cond_peer Unread (is_bad_flags w) _ _ h h
+unread_word y p g CloseArea w can h = left_unread p.engage.reason (record p { numbers = g }) h
+unread_word y p g ZeroMagic w can h = h
+unread_word y p g ClearOldBit w can h = h
+unread_word y p g (Prepare x) w can h = off_unread (record p { engage = prepared x p.engage }) (prepared_area x p.engage ∙ can.0)
+unread_word y p g OpenArea w can h = λ e. absurd (cc)
+unread_word y p g SetEngagementBit w can h = λ e. refl
+unread_word y p g ReadRecord w can h = read_unread y (record p { numbers = g }) p.engage.reading w can.0
+unread_word y p g StoreEcho w can h = h
+unread_word y p g StoreSecond w can h = contact_unread y.stamp (record p { numbers = g; engage = record p.engage { second = true } }) can.0
+unread_word y p g ClearEngagementBit w can h = h
+unread_word y p g LookAtPage w can h = cond_peer Unread _ _ _ h h
+unread_word y p g ClearDeactivationBit w can h = h
+unread_word y p g TellPartner w can h = h
+
+unread_ended : (kind : CopyKind) (p : Peer) → Unread p → Unread (copy_ended kind p)
+unread_ended RecordCopy p h = λ e. refl
+unread_ended kind p h = h
+
+unread_steps : StepsLeave Whatever Unread
+unread_steps = record { linked = λ p links going some h. h; reasoned = λ o p h. h; ended = λ kind p m n h. unread_ended kind p h; freed = λ p l h. λ e. absurd (cc); steps = λ y p g m w can n h. unread_word y p g m w can h }
+
+unread_next : (s : ScenarioPart) (q : ℕ) (st : State) (t : Turn) → May s st t → Unread (peer_of st q) → Unread (peer_of (after_turn s st t) q)
+unread_next s q st t may h =
+    moment_leaves Unread s q st.clock.puts (turn_counted (acted s st t)) (λ p. λ e. refl) (λ e. refl)
+    (acts_leave Unread s q unread_acts (after_step s (middle s st t) t.made) t.after (made_leaves Unread s q Whatever unread_steps (middle s st t) t.made may.made (λ x r f g m i. tt) (acts_leave Unread s q unread_acts st t.before h)))
+
+unread_first : (s : ScenarioPart) (q : ℕ) → Unread (peer_of (start s) q)
+unread_first s q = start_has Unread s q base (λ b l p h. λ e. refl) (λ p. λ e. refl) (λ e. refl) where
+  base : (ls : List ScenarioLink) → Unread (base_peer ls)
+  base [] = λ e. refl
+  base (l ∷ ls) = λ e. refl
+
 -- what always holds
 pub record Facts (st : State) : Type 0 where
   pub stands : (q : ℕ) → Stands (peer_of st q)
   pub rests : (q c : ℕ) → Rests (end_of st q c)
   pub cut : (q c : ℕ) → Cut c (peer_of st q)
   pub placed : (q : ℕ) → Placed (peer_of st q)
+  pub stored : (q : ℕ) → Stored (peer_of st q)
+  pub unread : (q : ℕ) → Unread (peer_of st q)
+  pub sober : (q c : ℕ) → Sobers (end_of st q c)
 
 pub facts_mid : (s : ScenarioPart) (st : State) (list : List Act) → Facts st → Facts (after_acts s st list)
 facts_mid s st list h = record {
@@ -142,6 +219,9 @@ facts_mid s st list h = record {
   rests = λ q c. acts_keep Rests s q c rests_acts st list (h.rests q c);
   cut = λ q c. acts_cut c s q st list (h.cut q c);
   placed = λ q. acts_leave Placed s q placed_acts st list (h.placed q);
+  stored = λ q. acts_leave Stored s q stored_acts st list (h.stored q);
+  unread = λ q. acts_leave Unread s q unread_acts st list (h.unread q);
+  sober = λ q c. acts_keep Sobers s q c sober_acts st list (h.sober q c);
 }
 
 -- a read that was planned
@@ -149,7 +229,7 @@ read_planned : (s : ScenarioPart) (v : Visit Errand) (st : State) (q : ℕ) (r :
 read_planned s v st q r m paced e is i = (planned_by s v st (ForPeer q ReadRecord) paced (e ∙ ap (λ (x : Rule). Some x) (is ∙ ap (λ (n : PeerRule). ForPeer q n) i))).meant
 
 pub facts_next : (s : ScenarioPart) (v : Visit Errand) (st : State) (t : Turn) → Paced (plan_of s) (whole s) v → May s st t → rule_made s (middle s st t) t ≡ (planned (plan_of s) v (middle s st t)).rule → Facts st → Facts (after_turn s st t)
-facts_next s v st t paced may e h = record { stands = stands; rests = λ q c. rests_next s q c v st t paced may e (h.rests q c); cut = λ q c. cut_next c s q st t may (h.rests q c) (h.cut q c); placed = placed } where
+facts_next s v st t paced may e h = record { stands = stands; rests = λ q c. rests_next s q c v st t paced may e (h.rests q c); cut = λ q c. cut_next c s q st t may (h.rests q c) (h.cut q c); placed = placed; stored = λ q. stored_next s q st t may (h.stored q); unread = λ q. unread_next s q st t may (h.unread q); sober = λ q c. sober_next s q c st t may (h.sober q c) } where
   ruled : (x : Marked) (r : Rule) → t.made ≡ Some x → rule_of s (middle s st t) x.step.op x.mark ≡ Some r → (planned (plan_of s) v (middle s st t)).rule ≡ Some r
   ruled x r f g = sym e ∙ ap (λ (o : Option Marked). rule_by s (middle s st t) o) f ∙ g
 
@@ -167,10 +247,13 @@ facts_next s v st t paced may e h = record { stands = stands; rests = λ q c. re
 
 pub facts_first : (s : ScenarioPart) → Facts (start s)
 facts_first s = record {
+  stored = λ q. stored_first s q;
+  unread = λ q. unread_first s q;
+  sober = λ q c. sober_first s q c;
   stands = λ q. stands_first s q;
   rests = λ q c. rests_first s q c;
   cut = λ q c. cut_first c s q;
-  placed = λ q. start_has Placed s q base (λ l p h. λ r f. absurd (cc)) (λ p. λ r f. absurd (cc)) (λ r f. absurd (cc));
+  placed = λ q. start_has Placed s q base (λ b l p h. λ r f. absurd (cc)) (λ p. λ r f. absurd (cc)) (λ r f. absurd (cc));
 }
   where
     base : (ls : List ScenarioLink) → Placed (base_peer ls)
@@ -206,6 +289,9 @@ fits_answer s = record { front = errands.Look ∷ errands.Prepare ∷ errands.En
 
 pub fits_record : (s : ScenarioPart) → Fits (plan_of s) errands.Record (errands_of agendas.Apart)
 fits_record s = record { front = errands.Look ∷ errands.Prepare ∷ errands.Engage ∷ errands.Answer ∷ []; back = errands.Answer ∷ errands.Leave ∷ errands.Bulk ∷ []; is = refl; low = omega arith }
+
+pub fits_leave : (s : ScenarioPart) → Fits (plan_of s) errands.Leave (errands_of agendas.Apart)
+fits_leave s = record { front = errands.Look ∷ errands.Prepare ∷ errands.Engage ∷ errands.Answer ∷ errands.Record ∷ errands.Answer ∷ []; back = errands.Bulk ∷ []; is = refl; low = omega arith }
 
 pub fits_prepare : (s : ScenarioPart) → Fits (plan_of s) errands.Prepare (errands_of agendas.Apart)
 fits_prepare s = record { front = errands.Look ∷ []; back = errands.Engage ∷ errands.Answer ∷ errands.Record ∷ errands.Answer ∷ errands.Leave ∷ errands.Bulk ∷ []; is = refl; low = omega arith }

@@ -39,7 +39,7 @@ use Rattle.xp_protocol.specs.Sending.{Sending, new_sending, with_remote_get, rin
 use Rattle.xp_protocol.specs.Pulling.{Pulling, pull_effect, pull_failed, message_taken, take_refusal}
 use Rattle.xp_protocol.specs.Releasing.{Releasing, message_released, message_held, release_refusal}
 use Rattle.xp_protocol.specs.State.{State, size_in, end_of, End, Sides, is_connected, link_of}
-use Rattle.xp_protocol.specs.Linking.{hear, hears, asked_more, by_send, by_pull, sender_counters, acknowledged, link_effect, close_now, down_notes, down_end, channel_closed, epoch_over, changed, unequal, is_ended, are_unequal, kind_left, kind_got, is_request, request_handled, reply_handled, is_code, code_handled, refused, kind_refused, well_handled, handled, has_argument, handled_next, settle, settled, with_taken, flags_got, end_sent, control_sent, flag_sent, with_argument, argument_stored, entries_in, limit_in}
+use Rattle.xp_protocol.specs.Linking.{owed, link_can, hear, hears, asked_more, by_send, by_pull, sender_counters, acknowledged, link_effect, close_now, down_notes, down_end, channel_closed, epoch_over, changed, unequal, is_ended, are_unequal, kind_left, kind_got, is_request, request_handled, reply_handled, is_code, code_handled, refused, kind_refused, well_handled, handled, has_argument, handled_next, settle, settled, with_taken, flags_got, end_sent, control_sent, flag_sent, with_argument, argument_stored, entries_in, limit_in}
 use Rattle.xp_protocol.specs.Acts.{say, refused_send, send_begun, take_begun, release_held, release_begun, drain_refusal, drain_begun, register_begun, unregister_begun, end_begun, taken_by, take_found, take_answered, answered_by, end_answered, without_first, end_noticed}
 use Rattle.xp_protocol.specs.Rules.{end_failed, link_answered, mark_of, place_for}
 
@@ -65,7 +65,6 @@ stands R e on h = let z = connected_by e on in h z.1 z.2
 pub record Framed (R : Bool → Sides → Type 0) : Type 0 where
   pub owed : (b : Bool) (x : Sides) → R b x → R b (record x { pull = record x.pull { owed = true } })
   pub sent : (b : Bool) (x : Sides) (y : Sending) → R b x → R b (record x { send = y })
-  pub sized : (b : Bool) (x : Sides) (n m : ℕ) → R b x → R b (record x { pull = record x.pull { entries = n; limit = m; copied = []; run = 0 } })
   pub numbers : (b : Bool) (x : Sides) (ns : List ℕ) → R b x → R b (record x { pending_notices = ns })
   pub drains : (b d : Bool) (x : Sides) → R b x → R b (record x { draining = d })
   pub taking : (b : Bool) (x : Sides) (o : Option Bool) (put : Option ℕ) → R b x → R b (record x { pull = record x.pull { take = o; empty = put } })
@@ -117,8 +116,8 @@ module _ (R : Bool → Sides → Type 0) (f : Framed R) where
   channel reason e h = closes e.shake.reason reason e h
 
   -- the handshake goes on
-  unequals : (b : Bool) (e : End) → While R e → While R (if b then channel_closed (UnequalSizes e.sides.send.limit e.sides.pull.limit) e else just e).local
-  unequals true e h = channel (UnequalSizes e.sides.send.limit e.sides.pull.limit) e h
+  unequals : (b : Bool) (e : End) → While R e → While R (if b then channel_closed (UnequalSizes (limit_in e.shake.own_size) (limit_in e.shake.their_size)) e else just e).local
+  unequals true e h = channel (UnequalSizes (limit_in e.shake.own_size) (limit_in e.shake.their_size)) e h
   unequals false e h = h
 
   changes : (b : Bool) (e : End) → While R e → While R (if b then epoch_over e else unequal e).local
@@ -145,10 +144,8 @@ module _ (R : Bool → Sides → Type 0) (f : Framed R) where
   copied true e h = λ a b. f.owed e.shake.owes_message e.sides (h a b)
   copied false e h = h
 
-  request_by : (b : Bool) (w : ℕ) (e : End) → While R e → While R (if b then just (record e {
-    sides = record e.sides { pull = record e.sides.pull { entries = (size_in w).entries; limit = (size_in w).limit; copied = []; run = 0 } };
-  }) else channel_closed (BadArgs w) e).local
-  request_by true w e h = λ a b. f.sized e.shake.owes_message e.sides (size_in w).entries (size_in w).limit (h a b)
+  request_by : (b : Bool) (w : ℕ) (e : End) → While R e → While R (if b then just (record e { shake = record e.shake { their_size = Some (size_in w) } }) else channel_closed (BadArgs w) e).local
+  request_by true w e h = h
   request_by false w e h = channel (BadArgs w) e h
 
   requested : (o : Option ℕ) (e : End) → While R e → While R (request_handled o e).local
@@ -206,19 +203,26 @@ module _ (R : Bool → Sides → Type 0) (f : Framed R) where
   pub flags_keep : (ks : Kinds) (e : End) → While R e → While R (flags_got ks e).local
   flags_keep ks e h = flags (is_some e.shake.meet) ks e h
 
-  -- a control flag is sent from a connected end
-  sends_to : (k : Kind) (e : End) → is_connected e ≡ true → While R e → While R (end_sent k e)
-  sends_to OpenRequest e on h = λ a b. f.sent e.shake.owes_message e.sides (new_sending (entries_in e.registration) (limit_in e.registration)) (stands R e on h)
-  sends_to OpenReply e on h = λ a b. stands R e on h
-  sends_to OpenComplete e on h = λ a b. stands R e on h
-  sends_to CloseRequest e on h = λ a b. stands R e on h
-  sends_to CloseReply e on h = λ a b. stands R e on h
-  sends_to MsgRequest e on h = λ a b. stands R e on h
+  -- a control flag is sent from a connected end: the open complete was sent before
+  unowed : (a b c d : Bool) → d ≡ true → (a && (b && (c && not d))) ≡ true → ⊥
+  unowed true true true true e f = cc
+  unowed true true false d e f = cc
+  unowed true false c d e f = cc
+  unowed false b c d e f = cc
+  unowed true true true false e f = absurd (cc)
 
-  sends : (k : Kind) (e : End) → is_connected e ≡ true → While R e → While R (control_sent k e).local
-  sends k e on h =
+  sends_to : (k : Kind) (e : End) → is_connected e ≡ true → owed k e ≡ true → While R e → While R (end_sent k e)
+  sends_to OpenRequest e on o h = λ a b. stands R e on h
+  sends_to OpenReply e on o h = λ a b. stands R e on h
+  sends_to OpenComplete e on o h = absurd (unowed (not (is_some e.shake.reason)) e.shake.sent.open_reply e.shake.got.open_reply e.shake.sent.open_complete (connected_by e on).1 o)
+  sends_to CloseRequest e on o h = λ a b. stands R e on h
+  sends_to CloseReply e on o h = λ a b. stands R e on h
+  sends_to MsgRequest e on o h = λ a b. stands R e on h
+
+  sends : (k : Kind) (e : End) → is_connected e ≡ true → owed k e ≡ true → While R e → While R (control_sent k e).local
+  sends k e on o h =
       let x = end_sent k e in
-      all_settles (changed x).local (changes (is_ended x) x (sends_to k e on h))
+      all_settles (changed x).local (changes (is_ended x) x (sends_to k e on o h))
 
   -- acts
   begins_send : (o : Option SendAnswer) (payload : List ℕ) (wait notify : Bool) (e : End) → While R e → While R (send_begun o payload wait notify e).local
@@ -330,21 +334,21 @@ module _ (R : Bool → Sides → Type 0) (f : Framed R) where
     loads_argument Reply place w e h = h
     loads_argument Code place w e h = h
 
-    word_keeps : (place : ℕ) (e : End) (m : LinkRule) (w : ℕ) → is_connected e ≡ true → While R e → E e m ⊎ While R (link_effect place e m w).local
-    word_keeps place e (Ring m) w on h = inr (sent_keeps own.accepted e (ring_effect e.sides.send m w) h)
-    word_keeps place e (Pull m) w on h = own.pulls e m w (stands R e on h)
-    word_keeps place e Acknowledge w on h = own.stores e (stands R e on h)
-    word_keeps place e (SetFlag MsgRequest) w on h = asks_more e (own.requests e (stands R e on h))
-    word_keeps place e (SetFlag CloseRequest) w on h = inr (sends CloseRequest e on h)
-    word_keeps place e (SetFlag CloseReply) w on h = inr (sends CloseReply e on h)
-    word_keeps place e (SetFlag OpenRequest) w on h = inr (sends OpenRequest e on h)
-    word_keeps place e (SetFlag OpenReply) w on h = inr (sends OpenReply e on h)
-    word_keeps place e (SetFlag OpenComplete) w on h = inr (sends OpenComplete e on h)
-    word_keeps place e ZeroGet w on h = inr h
-    word_keeps place e ZeroPut w on h = inr h
-    word_keeps place e (StoreArgument x) w on h = inr (stores_argument x e h)
-    word_keeps place e (ReadArgument x) w on h = inr (all_settles (with_argument x place w e) (loads_argument x place w e h))
+    word_keeps : (place : ℕ) (e : End) (m : LinkRule) (w : ℕ) → link_can e m → is_connected e ≡ true → While R e → E e m ⊎ While R (link_effect place e m w).local
+    word_keeps place e (Ring m) w can on h = inr (sent_keeps own.accepted e (ring_effect e.sides.send m w) h)
+    word_keeps place e (Pull m) w can on h = own.pulls e m w (stands R e on h)
+    word_keeps place e Acknowledge w can on h = own.stores e (stands R e on h)
+    word_keeps place e (SetFlag MsgRequest) w can on h = asks_more e (own.requests e (stands R e on h))
+    word_keeps place e (SetFlag CloseRequest) w can on h = inr (sends CloseRequest e on can.1 h)
+    word_keeps place e (SetFlag CloseReply) w can on h = inr (sends CloseReply e on can.1 h)
+    word_keeps place e (SetFlag OpenRequest) w can on h = inr (sends OpenRequest e on can.1 h)
+    word_keeps place e (SetFlag OpenReply) w can on h = inr (sends OpenReply e on can.1 h)
+    word_keeps place e (SetFlag OpenComplete) w can on h = inr (sends OpenComplete e on can.1 h)
+    word_keeps place e ZeroGet w can on h = inr h
+    word_keeps place e ZeroPut w can on h = inr h
+    word_keeps place e (StoreArgument x) w can on h = inr (stores_argument x e h)
+    word_keeps place e (ReadArgument x) w can on h = inr (all_settles (with_argument x place w e) (loads_argument x place w e h))
 
-    pub link_keeps : (s : ScenarioPart) (st : State) (q c : ℕ) (m : LinkRule) (a : Answer) → let e = end_of st q c in is_connected e ≡ true → While R e → E e m ⊎ While R (link_answered (mark_of s st (Link q c m)) (place_for s c) e m a).local
-    link_keeps s st q c m (Word w) on h = word_keeps (place_for s c) (end_of st q c) m w on h
-    link_keeps s st q c m Failed on h = own.fails s st q c m (stands R (end_of st q c) on h)
+    pub link_keeps : (s : ScenarioPart) (st : State) (q c : ℕ) (m : LinkRule) (a : Answer) → let e = end_of st q c in link_can e m → is_connected e ≡ true → While R e → E e m ⊎ While R (link_answered (mark_of s st (Link q c m)) (place_for s c) e m a).local
+    link_keeps s st q c m (Word w) can on h = word_keeps (place_for s c) (end_of st q c) m w can on h
+    link_keeps s st q c m Failed can on h = own.fails s st q c m (stands R (end_of st q c) on h)

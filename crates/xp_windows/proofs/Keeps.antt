@@ -23,7 +23,7 @@ use Rattle.xp_protocol.specs.declared.rule.Rule.TheVariants.{Link, Peer as ForPe
 use Rattle.xp_protocol.specs.Effects.{Effect, Note}
 use Rattle.xp_protocol.specs.State.{State, End, Peer, PeerGoing, Area, Old, Off, Ready, Leaving, Sides, cold_peer, idle_end, link_at, end_of, peer_of, is_connected, set_link}
 use Rattle.xp_protocol.specs.Linking.{flags_got}
-use Rattle.xp_protocol.specs.Peering.{Here, peer_can, peer_effect, peer_read, deactivation_heard, same_peer, is_bad_flags, is_left, is_flagged, with_reason, booted_peer, contact_made}
+use Rattle.xp_protocol.specs.Peering.{Here, peer_can, peer_effect, peer_read, deactivation_heard, same_peer, is_bad_flags, is_left, is_flagged, with_reason, end_reason, booted_peer, contact_made}
 use Rattle.xp_protocol.specs.Rules.{Can, here_of, mark_of, numbered, link_answered, place_for, peer_answered, after_answer}
 use Rattle.xp_protocol.specs.Acts.{EndName, aim_by, named_end, aimed, aim_at, aim_of, with_aim, current, upcoming, end_begun, end_answered, end_noticed, command_begun, after_act, after_acts}
 use Rattle.xp_protocol.specs.Runs.{May, MayMake, MayStep, after_ruled, after_step, after_turn, acted, turn_counted, moment, moment_by, restarted, restart_comes, stop_comes, is_over}
@@ -173,7 +173,7 @@ module _ (R : Bool → Sides → Type 0) (f : Framed R) (s : ScenarioPart) (q c 
         let A = At q c E st (Link k d m) in
         let mark = mark_of s st (Link k d m) in
         let g = link_answered mark (place_for s d) (end_of st k d) m a in
-        at_peer (λ (p : Peer). A ⊎ Stands p) st.peers k (with_reason g.reason (set_link (numbered mark d (peer_of st k)) d g.local)) q
+        at_peer (λ (p : Peer). A ⊎ Stands p) st.peers k (with_reason (end_reason (peer_of st k).flags_seen g.reason) (set_link (numbered mark d (peer_of st k)) d g.local)) q
         (λ e. at_slot (λ (x : End). A ⊎ While R x) (peer_of st k).links d c g.local idle_end (λ i. new e i) (inr (subst (λ (j : ℕ). While R (end_of st j c)) e h))) (inr h)
       where
         found : q ≡ k → c ≡ d → E (end_of st k d) m ⊎ While R (link_answered (mark_of s st (Link k d m)) (place_for s d) (end_of st k d) m a).local → At q c E st (Link k d m) ⊎ While R (link_answered (mark_of s st (Link k d m)) (place_for s d) (end_of st k d) m a).local
@@ -181,7 +181,7 @@ module _ (R : Bool → Sides → Type 0) (f : Framed R) (s : ScenarioPart) (q c 
         found e i (inr y) = inr y
 
         new : q ≡ k → c ≡ d → At q c E st (Link k d m) ⊎ While R (link_answered (mark_of s st (Link k d m)) (place_for s d) (end_of st k d) m a).local
-        new e i = found e i (link_keeps R f E own s st k d m a (subst (λ (j : ℕ). is_connected (end_of st j d) ≡ true) e (subst (λ (j : ℕ). is_connected (end_of st q j) ≡ true) i on)) (moved (While R) s q c st k d e i h))
+        new e i = found e i (link_keeps R f E own s st k d m a can.1.1 (subst (λ (j : ℕ). is_connected (end_of st j d) ≡ true) e (subst (λ (j : ℕ). is_connected (end_of st q j) ≡ true) i on)) (moved (While R) s q c st k d e i h))
     rule_keeps st (ForPeer k m) a can met on h =
         at_peer Or st.peers k _ q (λ e. inr (peer_answers (here_of s st k) (mark_of s st (ForPeer k m)) (peer_of st k) m a can.1.1 (subst (λ (j : ℕ). IsSome (peer_of st j).contact) e met.contact) (subst (λ (j : ℕ). (peer_of st j).engage.reason ≡ None) e met.free) (subst (λ (j : ℕ). c < length (peer_of st j).links) e (among st q c on)) (subst (λ (j : ℕ). While R (end_of st j c)) e h))) (inr h)
     rule_keeps st (Own ReadEngaged) (Word w) can met on h = at_each Or (λ j p. (peer_read w j p).local) st.peers q (cold_peer Old) (inr (read_leaves (peer_of st q) w met.ready h)) (λ l. absurd (past q st met l))

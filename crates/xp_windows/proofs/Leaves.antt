@@ -25,7 +25,7 @@ use Rattle.xp_protocol.specs.declared.rule.Rule.{Rule}
 use Rattle.xp_protocol.specs.declared.rule.Rule.TheVariants.{Link, Peer as ForPeer, Own}
 use Rattle.xp_protocol.specs.Effects.{Effect, Note, first_reason}
 use Rattle.xp_protocol.specs.State.{State, end_of, Life, Up, Peer, PeerGoing, Engage, Area, Old, Off, Ready, Leaving, cold_peer, peer_at, peer_of, set_link}
-use Rattle.xp_protocol.specs.Peering.{copies_go_on, Here, peer_can, peer_effect, peer_read, deactivation_heard, area_off, same_peer, is_left, is_ready, is_flagged, with_reason, copy_ended, peer_failed, page_read}
+use Rattle.xp_protocol.specs.Peering.{copies_go_on, Here, peer_can, peer_effect, peer_read, deactivation_heard, area_off, same_peer, is_left, is_ready, is_flagged, with_reason, end_reason, copy_ended, peer_failed, page_read}
 use Rattle.xp_protocol.specs.Rules.{Can, numbered, link_answered, place_for, peer_life, here_of, mark_of, peer_answered, peer_numbered, after_answer}
 use Rattle.xp_protocol.specs.Acts.{Aim, aimed, with_aim, command_begun, unwanted, peers_wanted, after_act, after_acts}
 use Rattle.xp_protocol.specs.Runs.{May, MayMake, MayStep, after_ruled, after_step, after_turn, acted, turn_counted, moment, moment_by, restarted, restart_comes, stop_comes, is_over}
@@ -97,7 +97,7 @@ module _ (Q : Engage → Type 0) (goal : PeerRule) (z : Stays Q goal) (boot : �
   rule_stays st (Link k d m) a up can h =
       let g = link_answered (mark_of s st (Link k d m)) (place_for s d) (end_of st k d) m a in
       let p = set_link (numbered (mark_of s st (Link k d m)) d (peer_of st k)) d g.local in
-      inr (at_peer On st.peers k (with_reason g.reason p) q (λ e. z.reasoned g.reason p (subst (λ (j : ℕ). Q (peer_of st j).engage) e h)) h)
+      inr (at_peer On st.peers k (with_reason (end_reason (peer_of st k).flags_seen g.reason) p) q (λ e. z.reasoned (end_reason (peer_of st k).flags_seen g.reason) p (subst (λ (j : ℕ). Q (peer_of st j).engage) e h)) h)
   rule_stays st (ForPeer k m) a up can h =
       let g = peer_answered (here_of s st k) (mark_of s st (ForPeer k m)) (peer_of st k) m a in
       at_peer (λ (p : Peer). IsFor q goal st (ForPeer k m) ⊎ On p) st.peers k (with_reason g.reason g.local) q

@@ -24,3 +24,6 @@ pub mod Facts
 pub mod Engages
 pub mod Replies
 pub mod Records
+pub mod Stored
+pub mod Opens
+pub mod Sober

@@ -28,7 +28,7 @@ use Rattle.xp_protocol.specs.declared.rule.Rule.{Rule}
 use Rattle.xp_protocol.specs.declared.rule.Rule.TheVariants.{Link, Peer as ForPeer, Own}
 use Rattle.xp_protocol.specs.Effects.{Effect, Note}
 use Rattle.xp_protocol.specs.State.{State, Life, Up, Peer, PeerGoing, Engage, Reading, Area, Old, cold_peer, peer_at, peer_of, end_of}
-use Rattle.xp_protocol.specs.Peering.{Here, booted_peer, peer_can, peer_effect, page_read, judged, look_reason, with_reason, copy_ended, same_peer, flags_taken, is_bad_flags, area_left_for, try_contact, contact_made, record_read, last_read, place_read, has_shown, is_wrong, is_magic}
+use Rattle.xp_protocol.specs.Peering.{both_new_by, Here, booted_peer, peer_can, peer_effect, page_read, judged, look_reason, with_reason, copy_ended, same_peer, flags_taken, is_bad_flags, area_left_for, try_contact, contact_made, record_read, last_read, place_read, has_shown, is_wrong, is_magic}
 use Rattle.xp_protocol.specs.Rules.{Can, here_of, mark_of, peer_answered, peer_numbered, after_answer}
 use Rattle.xp_protocol.specs.Decode.{rule_of}
 use Rattle.xp_protocol.specs.Acts.{after_acts}
@@ -105,18 +105,18 @@ none_steps = record { linked = λ p links going some h. h; reasoned = λ o p h. 
 abbrev Turned : ℕ → Peer → Type 0
 Turned n p = (p.paging ≡ []) ⊎ ((length p.paging ≡ n + 1) × (n + 1 < 5))
 
-page_by : (b : Bool) (words : List ℕ) (w n : ℕ) (p : Peer) → nat_eq (length words) 5 ≡ b → length words ≡ n + 1 → n < 5
-    → let f : Effect Peer (ℕ → List Note) = if b then record { local = record p { look = judged words; paging = [] }; reason = look_reason p.engage.echo (judged words) w; notes = λ c. [] } else record { local = record p { paging = words }; reason = None; notes = λ c. [] } in Turned n f.local
-page_by true words w n p e l few = inl refl
-page_by false words w n p e l few = inr (l, (let m : length words ≡ 5 → ⊥ = not_five (length words) e in omega (arith, l, m, few))) where
+page_by : (own : ℕ) (b : Bool) (words : List ℕ) (w n : ℕ) (p : Peer) → nat_eq (length words) 5 ≡ b → length words ≡ n + 1 → n < 5
+    → let f : Effect Peer (ℕ → List Note) = if b then record { local = record p { look = judged words; paging = []; both_new = both_new_by own (judged words) p.both_new }; reason = look_reason p.engage.echo (judged words) w; notes = λ c. [] } else record { local = record p { paging = words }; reason = None; notes = λ c. [] } in Turned n f.local
+page_by own true words w n p e l few = inl refl
+page_by own false words w n p e l few = inr (l, (let m : length words ≡ 5 → ⊥ = not_five (length words) e in omega (arith, l, m, few))) where
   not_five : (a : ℕ) → nat_eq a 5 ≡ false → a ≡ 5 → ⊥
   not_five a f g = grind (arith, nat_tests)
 
-page_turned : (words : List ℕ) (w : ℕ) (p : Peer) → length words < 5 → Turned (length words) (page_read (words ++ w ∷ []) w p).local
-page_turned words w p few = let l : length (words ++ w ∷ []) ≡ length words + 1 = length-append words (w ∷ []) in page_by (nat_eq (length (words ++ w ∷ [])) 5) (words ++ w ∷ []) w (length words) p refl l few
+page_turned : (own : ℕ) (words : List ℕ) (w : ℕ) (p : Peer) → length words < 5 → Turned (length words) (page_read own (words ++ w ∷ []) w p).local
+page_turned own words w p few = let l : length (words ++ w ∷ []) ≡ length words + 1 = length-append words (w ∷ []) in page_by own (nat_eq (length (words ++ w ∷ [])) 5) (words ++ w ∷ []) w (length words) p refl l few
 
 look_turned : (s : ScenarioPart) (st : State) (q : ℕ) (a : Answer) → length (peer_of st q).paging < 5 → Turned (length (peer_of st q).paging) (peer_answered (here_of s st q) (mark_of s st (ForPeer q LookAtPage)) (peer_of st q) LookAtPage a).local
-look_turned s st q (Word w) few = page_turned (peer_of st q).paging w (peer_numbered (mark_of s st (ForPeer q LookAtPage)) (peer_of st q)) few
+look_turned s st q (Word w) few = page_turned (here_of s st q).version (peer_of st q).paging w (peer_numbered (mark_of s st (ForPeer q LookAtPage)) (peer_of st q)) few
 look_turned s st q Failed few = inl refl
 
 look_makes : (s : ScenarioPart) (st : State) (q : ℕ) (a : Answer) → length (peer_of st q).paging < 5 → Turned (length (peer_of st q).paging) (peer_of (after_answer s st (ForPeer q LookAtPage) a) q)
@@ -431,4 +431,4 @@ module _ (s : ScenarioPart) (q : ℕ) (x : Spot s.part s.count q) where
 
 -- no look goes on at the opening
 pub tied_first : (s : ScenarioPart) (k q : ℕ) → Tied s k q (first_visit s) (start s)
-tied_first s k q = inl (start_has (Pages []) s q (λ ls. refl) (λ l p h. h) (λ p. refl) refl)
+tied_first s k q = inl (start_has (Pages []) s q (λ ls. refl) (λ b l p h. h) (λ p. refl) refl)

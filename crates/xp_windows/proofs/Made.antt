@@ -2,7 +2,7 @@
 use Rattle.std.proofs.Common.{◌≡◌, ℕ, Bool, true, false, ◌&&◌, List, [], ◌∷◌, get_or-set_same, refl, ap, sym, ◌∙◌, subst, Option, Some, None}
 use Rattle.std.specs.Prelude.{not, if◌then◌else◌}
 use Rattle.xp_base.specs.declared.reason.Reason.{Reason}
-use Rattle.xp_base.specs.declared.reason.Reason.TheVariants.{Unloading}
+use Rattle.xp_base.specs.declared.reason.Reason.TheVariants.{Unloading, BadFlags}
 use Rattle.xp_base.specs.declared.step.Answer.{Answer}
 use Rattle.xp_base.specs.declared.step.CopyMark.{CopyMark}
 use Rattle.xp_base.specs.History.{Act, Marked, Turn}
@@ -13,7 +13,7 @@ use Rattle.xp_protocol.specs.declared.rule.Rule.TheVariants.{Link}
 use Rattle.xp_protocol.specs.Effects.{Effect, Note, first_reason}
 use Rattle.xp_protocol.specs.Parts.{fails_at}
 use Rattle.xp_protocol.specs.State.{State, End, Peer, Old, cold_peer, idle_end, link_at, peer_at, end_of, peer_of, is_connected, set_link}
-use Rattle.xp_protocol.specs.Peering.{with_reason, is_ready, booted_peer}
+use Rattle.xp_protocol.specs.Peering.{with_reason, end_reason, is_ready, booted_peer}
 use Rattle.xp_protocol.specs.Rules.{mark_of, numbered, link_answered, place_for, after_answer}
 use Rattle.xp_protocol.specs.Acts.{Aim, aimed, with_aim, command_begun, after_act, after_acts}
 use Rattle.xp_protocol.specs.Decode.{rule_of}
@@ -27,6 +27,11 @@ use Rattle.xp_windows.proofs.Keeps.{ActsKeep, acts_keep, moment_keeps, no_contac
 none_first : (a b : Option Reason) → first_reason a b ≡ None → (a ≡ None) × (b ≡ None)
 none_first None b h = (refl, h)
 none_first (Some r) b h = absurd (cc)
+
+end_none : (seen : ℕ) (o : Option Reason) → end_reason seen o ≡ None → o ≡ None
+end_none seen None e = refl
+end_none seen (Some (BadFlags w)) e = absurd (cc)
+end_none seen (Some r) e = absurd (cc)
 
 module _ (s : ScenarioPart) (q c : ℕ) where
   abbrev Free : State → Type 0
@@ -62,16 +67,16 @@ module _ (s : ScenarioPart) (q c : ℕ) where
   exact st m a met on =
       let mark = mark_of s st (Link q c m) in
       let g = Does st m a in
-      ap (λ (p : Peer). link_at p.links c) (get_or-set_same st.peers q (with_reason g.reason (set_link (numbered mark c (peer_of st q)) c g.local)) (cold_peer Old) (within q st met))
+      ap (λ (p : Peer). link_at p.links c) (get_or-set_same st.peers q (with_reason (end_reason (peer_of st q).flags_seen g.reason) (set_link (numbered mark c (peer_of st q)) c g.local)) (cold_peer Old) (within q st met))
       ∙ get_or-set_same (peer_of st q).links c g.local idle_end (among st q c on)
 
   unblamed : (st : State) (m : LinkRule) (a : Answer) → IsMet q st → Free (after_answer s st (Link q c m) a) → (Does st m a).reason ≡ None
   unblamed st m a met h =
       let mark = mark_of s st (Link q c m) in
       let g = Does st m a in
-      let new = ap (λ (p : Peer). p.engage.reason) (get_or-set_same st.peers q (with_reason g.reason (set_link (numbered mark c (peer_of st q)) c g.local)) (cold_peer Old) (within q st met)) in
-      let z = (none_first (peer_of st q).engage.reason (if is_ready (peer_of st q).engage.area then g.reason else None) (sym new ∙ h)).1 in
-      ap (λ (b : Bool). if b then g.reason else None) (sym (ap (λ (x : _). is_ready x) met.ready)) ∙ z
+      let new = ap (λ (p : Peer). p.engage.reason) (get_or-set_same st.peers q (with_reason (end_reason (peer_of st q).flags_seen g.reason) (set_link (numbered mark c (peer_of st q)) c g.local)) (cold_peer Old) (within q st met)) in
+      let z = (none_first (peer_of st q).engage.reason (if is_ready (peer_of st q).engage.area then end_reason (peer_of st q).flags_seen g.reason else None) (sym new ∙ h)).1 in
+      end_none (peer_of st q).flags_seen g.reason (ap (λ (b : Bool). if b then end_reason (peer_of st q).flags_seen g.reason else None) (sym (ap (λ (x : _). is_ready x) met.ready)) ∙ z)
 
   -- the rule of the end's own step is known: what it makes of the end stands after the turn
   pub step_makes : (P : End → Type 0) → ActsKeep P → (st : State) (t : Turn) (m : LinkRule) → May s st t → IsMet q (middle s st t) → is_connected (end_of (middle s st t) q c) ≡ true → IsMet q (after_turn s st t) → rule_made s (middle s st t) t ≡ Some (Link q c m)

@@ -17,8 +17,8 @@ use Rattle.xp_protocol.specs.declared.rule.PeerRule.{PeerRule}
 use Rattle.xp_protocol.specs.declared.rule.OwnRule.TheVariants.{ReadEngaged, TakeDeactivation, ReadStamp, ZeroMask, ZeroOffline, WriteStamp, StoreMask, TakeActivation}
 use Rattle.xp_protocol.specs.declared.rule.Rule.{Rule}
 use Rattle.xp_protocol.specs.declared.rule.Rule.TheVariants.{Link, Peer as ForPeer, Own}
-use Rattle.xp_protocol.specs.State.{State, End, Going, Peer, PeerGoing, Old, cold_peer, end_of, peer_at, peer_of, set_link, warm_peer, opened_peers, base_peer, first_peers, opened_state}
-use Rattle.xp_protocol.specs.Peering.{Here, peer_can, peer_effect, peer_read, deactivation_heard, area_off, same_peer, is_left, is_flagged, with_reason, copy_ended, booted_peer}
+use Rattle.xp_protocol.specs.State.{State, End, Going, Peer, PeerGoing, Old, cold_peer, end_of, peer_at, peer_of, set_link, warm_peer, opened_new, opened_peers, base_peer, first_peers, opened_state}
+use Rattle.xp_protocol.specs.Peering.{Here, peer_can, peer_effect, peer_read, deactivation_heard, area_off, same_peer, is_left, is_flagged, with_reason, end_reason, copy_ended, booted_peer}
 use Rattle.xp_protocol.specs.Rules.{Can, numbered, link_answered, place_for, here_of, mark_of, peer_answered, after_answer}
 use Rattle.xp_protocol.specs.Acts.{Aim, aimed, with_aim, command_begun, unwanted, wanted_again, after_act, after_acts}
 use Rattle.xp_protocol.specs.Decode.{rule_of}
@@ -82,7 +82,7 @@ module _ (P : Peer → Type 0) (s : ScenarioPart) (q : ℕ) where
     rule_leaves st (Link k d m) a can n h =
         let g = link_answered (mark_of s st (Link k d m)) (place_for s d) (end_of st k d) m a in
         let p = set_link (numbered (mark_of s st (Link k d m)) d (peer_of st k)) d g.local in
-        at_peer P st.peers k (with_reason g.reason p) q (λ e. z.reasoned g.reason p (z.linked (peer_of st k) _ _ can.1.0.contact (subst (λ (j : ℕ). P (peer_of st j)) e h))) h
+        at_peer P st.peers k (with_reason (end_reason (peer_of st k).flags_seen g.reason) p) q (λ e. z.reasoned (end_reason (peer_of st k).flags_seen g.reason) p (z.linked (peer_of st k) _ _ can.1.0.contact (subst (λ (j : ℕ). P (peer_of st j)) e h))) h
     rule_leaves st (ForPeer k m) a can n h =
         let g = peer_answered (here_of s st k) (mark_of s st (ForPeer k m)) (peer_of st k) m a in
         at_peer P st.peers k (with_reason g.reason g.local) q
@@ -113,9 +113,9 @@ module _ (P : Peer → Type 0) (s : ScenarioPart) (q : ℕ) where
 
 -- at the opening: of each partner of a link something holds, and of each other one
 module _ (P : Peer → Type 0) (s : ScenarioPart) (q : ℕ) where
-  opened : (part : ℕ) (ls : List ScenarioLink) (peers : List Peer) → ((l : ScenarioLink) (p : Peer) → P p → P (warm_peer part l p)) → P (peer_at peers q) → P (peer_at (opened_peers part ls peers) q)
-  opened part [] peers warm h = h
-  opened part (l ∷ ls) peers warm h = opened part ls (slice_set peers l.partner (warm_peer part l (peer_at peers l.partner))) warm (at_peer P peers l.partner (warm_peer part l (peer_at peers l.partner)) q (λ e. warm l (peer_at peers l.partner) (subst (λ (j : ℕ). P (peer_at peers j)) e h)) h)
+  opened : (new : ℕ → Bool) (ls : List ScenarioLink) (peers : List Peer) → ((b : Bool) (l : ScenarioLink) (p : Peer) → P p → P (warm_peer b l p)) → P (peer_at peers q) → P (peer_at (opened_peers new ls peers) q)
+  opened new [] peers warm h = h
+  opened new (l ∷ ls) peers warm h = opened new ls (slice_set peers l.partner (warm_peer (new l.partner) l (peer_at peers l.partner))) warm (at_peer P peers l.partner (warm_peer (new l.partner) l (peer_at peers l.partner)) q (λ e. warm (new l.partner) l (peer_at peers l.partner) (subst (λ (j : ℕ). P (peer_at peers j)) e h)) h)
 
   unopened : (n : ℕ) (ls : List ScenarioLink) → P (base_peer ls) → P (cold_peer Old) → P (peer_at (first_peers n ls) q)
   unfolding first_peers
@@ -124,10 +124,10 @@ module _ (P : Peer → Type 0) (s : ScenarioPart) (q : ℕ) where
     by (inl l) = subst P (sym (get_or-replicate n q (base_peer ls) (cold_peer Old) l)) base
     by (inr l) = subst P (sym (get_or_past (replicate n (base_peer ls)) q (cold_peer Old) (omega (arith, length-replicate {A = Peer} n (base_peer ls), l)))) cold
 
-  pub opened_has : ((ls : List ScenarioLink) → P (base_peer ls)) → ((l : ScenarioLink) (p : Peer) → P p → P (warm_peer s.part l p)) → P (cold_peer Old) → P (peer_of (opened_state s) q)
-  opened_has base warm cold = opened s.part s.links (first_peers s.count s.links) warm (unopened s.count s.links (base s.links) cold)
+  pub opened_has : ((ls : List ScenarioLink) → P (base_peer ls)) → ((b : Bool) (l : ScenarioLink) (p : Peer) → P p → P (warm_peer b l p)) → P (cold_peer Old) → P (peer_of (opened_state s) q)
+  opened_has base warm cold = opened (opened_new s) s.links (first_peers s.count s.links) warm (unopened s.count s.links (base s.links) cold)
 
-  pub start_has : ((ls : List ScenarioLink) → P (base_peer ls)) → ((l : ScenarioLink) (p : Peer) → P p → P (warm_peer s.part l p)) → ((p : Peer) → P (booted_peer p)) → P (cold_peer Old) → P (peer_of (start s) q)
+  pub start_has : ((ls : List ScenarioLink) → P (base_peer ls)) → ((b : Bool) (l : ScenarioLink) (p : Peer) → P p → P (warm_peer b l p)) → ((p : Peer) → P (booted_peer p)) → P (cold_peer Old) → P (peer_of (start s) q)
   start_has base warm boots cold = moment_leaves P s q 0 (opened_state s) boots cold (opened_has base warm cold)
 
 -- a fact of a partner that stands until the step of this rule

@@ -37,8 +37,9 @@ use Rattle.xp_protocol.proofs.Frames.{cond_peer}
 use Rattle.xp_plan.specs.declared.errand.Errand.{Errand}
 use Rattle.xp_plan.specs.declared.errand.Errand.TheVariants as errands
 use Rattle.xp_plan.specs.EndSteps.{step_if}
-use Rattle.xp_plan.specs.PeerSteps.{for_peer, is_open_to, engage_by, engage_at, has_waited, echo_step, is_backing_off, answer_at, is_activating, may_read, record_at}
-use Rattle.xp_plan.specs.Plan.{asked, is_joined, plan_of}
+use Rattle.xp_plan.specs.PeerSteps.{for_peer, is_open_to, engage_by, engage_at, has_waited, echo_step, is_backing_off, answer_at, is_activating, may_read, record_at, leave_bit, leave_by, leave_at}
+use Rattle.xp_plan.specs.declared.errand.Agenda.TheVariants as agendas
+use Rattle.xp_plan.specs.Plan.{asked, is_joined, errands_of, plan_of}
 use Rattle.xp_windows.specs.Windows.{middle, Changes, Steps, IsFor, IsUp, IsOpenTo, IsOffered, IsActivating, BeginsRecord, EndsRecord, SomeTurn, SomeFrom, Throughout}
 use Rattle.xp_windows.specs.Visited.{rule_by, rule_made}
 use Rattle.xp_windows.proofs.Places.{Turns, Run, first_holds, asks}
@@ -49,7 +50,7 @@ use Rattle.xp_windows.proofs.PeerFrames.{ActsLeave, StepsLeave, acts_leave, made
 use Rattle.xp_windows.proofs.Planned.{planned_by}
 use Rattle.xp_windows.proofs.Engaged.{Stands, uncontacted}
 use Rattle.xp_windows.proofs.Looks.{Tied}
-use Rattle.xp_windows.proofs.Facts.{Facts, Pacing, pacing_next, Placed, facts_mid, calm, apart_fits, unjoined, fits_engage, fits_answer, fits_record, in_range, made_for, looks_aside, not_looking}
+use Rattle.xp_windows.proofs.Facts.{Facts, Pacing, pacing_next, Placed, facts_mid, calm, apart_fits, unjoined, fits_engage, fits_answer, fits_leave, fits_record, in_range, made_for, looks_aside, not_looking}
 use Rattle.xp_windows.proofs.PeerFrames.{Awaits, turn_awaits}
 use Rattle.xp_windows.proofs.Engages.{opens_to, Asked, asked_acts}
 
@@ -152,8 +153,24 @@ module _ (Q : Engage → Type 0) (z : Lasts Q) (goal : PeerRule) (N : Peer → P
     steps = steps;
   }
 
--- a step of the errand that answers a partner
-module _ (boot : ℕ) (C : State → Type 0) (s : ScenarioPart) (q : ℕ) (x : Spot s.part s.count q) (goal : PeerRule) (N : Peer → PeerRule → Type 0) (P : Peer → Type 0) (z : Awaits N P goal) (Done : State → Turn → Type 0) where
+-- an errand of a partner that isn't joined, and what it asks for
+pub record Errands (s : ScenarioPart) (q : ℕ) : Type 0 where
+  pub errand : Errand
+  pub at : Peer → Option PeerRule
+  pub other : errands.Look ≡ errand → ⊥
+  pub some : 1 ≤ (plan_of s).quota errand
+  pub most : (plan_of s).quota errand ≤ VISIT_TURNS
+  pub fits : Fits (plan_of s) errand (errands_of agendas.Apart)
+  pub asks : (x : Spot s.part s.count q) (boot : ℕ) (st : State) → IsUp boot st → (plan_of s).ask x.number errand 0 st ≡ asked (for_peer q (at (peer_of st q)))
+
+abbrev pub answering : (s : ScenarioPart) (q : ℕ) → Errands s q
+answering s q = record { errand = errands.Answer; at = answer_at; other = λ e. cc; some = omega arith; most = omega arith; fits = fits_answer s; asks = λ x boot st up. asks s q x errands.Answer 0 boot st up }
+
+abbrev pub leaving : (s : ScenarioPart) (q : ℕ) → Errands s q
+leaving s q = record { errand = errands.Leave; at = leave_at; other = λ e. cc; some = omega arith; most = omega arith; fits = fits_leave s; asks = λ x boot st up. asks s q x errands.Leave 0 boot st up }
+
+-- a step of it
+module _ (boot : ℕ) (C : State → Type 0) (s : ScenarioPart) (q : ℕ) (x : Spot s.part s.count q) (goal : PeerRule) (N : Peer → PeerRule → Type 0) (P : Peer → Type 0) (z : Awaits N P goal) (Done : State → Turn → Type 0) (w : Errands s q) where
   abbrev IsAlong : Visit Errand → State → List Turn → Type 0
   IsAlong v st ts = Along (plan_of s) (middle s) (after_turn s) (rule_made s) s.count (Pacing boot C s q x) (pacing_next boot C s q x) v st ts
 
@@ -163,7 +180,7 @@ module _ (boot : ℕ) (C : State → Type 0) (s : ScenarioPart) (q : ℕ) (x : S
   -- what the errand asks for, and what is claimed of it
   record Comes (st : State) (t : Turn) : Type 0 where
     rule : PeerRule
-    is : answer_at (peer_of (middle s st t) q) ≡ Some rule
+    is : w.at (peer_of (middle s st t) q) ≡ Some rule
     done : rule_made s (middle s st t) t ≡ Some (ForPeer q rule) → Done st t
 
   module _ (known : (v : Visit Errand) (st : State) (t : Turn) (ts : List Turn) → IsAlong v st (t ∷ ts) → P (peer_of (middle s st t) q) → (m : PeerRule) → rule_made s (middle s st t) t ≡ Some (ForPeer q m) → N (peer_of (middle s st t) q) m)
@@ -182,24 +199,24 @@ module _ (boot : ℕ) (C : State → Type 0) (s : ScenarioPart) (q : ℕ) (x : S
         let later = first_holds (IsUp boot) s (after_turn s st t) ts a.more.run.up.2 in
         or_done st t ts (λ d. claim v st t ts a (mid st t h) d) (turn_awaits N P goal z s q st t (later.boot ∙ sym a.more.run.up.0.boot) a.more.run.runs.0 (known v st t ts a (mid st t h)) h)
 
-    asks_now : (v : Visit Errand) (st : State) (t : Turn) (ts : List Turn) (n : ℕ) → IsAlong v st (t ∷ ts) → Free st t → P (peer_of st q) → (o : Option Rule) × ((plan_of s).ask x.number errands.Answer 0 (middle s st t) ≡ Some o) × (rule_made s (middle s st t) t ≡ o → SomeTurn Done s st (t ∷ ts) ⊎ Moved (plan_of s) (middle s) (after_turn s) (rule_made s) s.count (Pacing boot C s q x) (pacing_next boot C s q x) (Unit {0}) (λ _ n used y. (used ≡ 0) × P (peer_of y q)) (λ _ y us. SomeTurn Done s y us) tt n 0 st t ts)
+    asks_now : (v : Visit Errand) (st : State) (t : Turn) (ts : List Turn) (n : ℕ) → IsAlong v st (t ∷ ts) → Free st t → P (peer_of st q) → (o : Option Rule) × ((plan_of s).ask x.number w.errand 0 (middle s st t) ≡ Some o) × (rule_made s (middle s st t) t ≡ o → SomeTurn Done s st (t ∷ ts) ⊎ Moved (plan_of s) (middle s) (after_turn s) (rule_made s) s.count (Pacing boot C s q x) (pacing_next boot C s q x) (Unit {0}) (λ _ n used y. (used ≡ 0) × P (peer_of y q)) (λ _ y us. SomeTurn Done s y us) tt n 0 st t ts)
     asks_now v st t ts n a free h =
         let y = comes v st t ts a free (mid st t h) in
-        (Some (ForPeer q y.rule), asks s q x errands.Answer 0 boot (middle s st t) a.more.run.up.1 ∙ ap (λ (o : Option PeerRule). asked (for_peer q o)) y.is, λ f. inl (inl (y.done f)))
+        (Some (ForPeer q y.rule), w.asks x boot (middle s st t) a.more.run.up.1 ∙ ap (λ (o : Option PeerRule). asked (for_peer q o)) y.is, λ f. inl (inl (y.done f)))
 
-    duty : Duty (plan_of s) (middle s) (after_turn s) (rule_made s) s.count (Pacing boot C s q x) (pacing_next boot C s q x) x.number errands.Answer 0 Free (λ y. P (peer_of y q)) (Unit {0}) tt (λ _ n used y. (used ≡ 0) × P (peer_of y q)) (λ _ y us. SomeTurn Done s y us)
+    duty : Duty (plan_of s) (middle s) (after_turn s) (rule_made s) s.count (Pacing boot C s q x) (pacing_next boot C s q x) x.number w.errand 0 Free (λ y. P (peer_of y q)) (Unit {0}) tt (λ _ n used y. (used ≡ 0) × P (peer_of y q)) (λ _ y us. SomeTurn Done s y us)
     duty = record {
       later = λ st t ts h. inr h;
-      aside = λ v st t ts a h. looks_aside boot C s q x errands.Answer (λ e. cc) v st t a.more.tied;
+      aside = λ v st t ts a h. looks_aside boot C s q x w.errand w.other v st t a.more.tied;
       stays = λ v st t ts a long h. stays v st t ts a h;
-      fits = λ v st t ts a h. apart_fits s q x errands.Answer boot (middle s st t) a.more.run.up.1 (unjoined (peer_of (middle s st t) q) (apart v st t ts a (mid st t h))) (fits_answer s);
-      begins = λ v st t ts a free h. (0, omega arith, (refl, h));
-      asks = λ ph n used v st t ts a free long few w. subst (λ (j : ℕ). (o : Option Rule) × ((plan_of s).ask x.number errands.Answer j (middle s st t) ≡ Some o) × (rule_made s (middle s st t) t ≡ o → SomeTurn Done s st (t ∷ ts) ⊎ Moved (plan_of s) (middle s) (after_turn s) (rule_made s) s.count (Pacing boot C s q x) (pacing_next boot C s q x) (Unit {0}) (λ _ n used y. (used ≡ 0) × P (peer_of y q)) (λ _ y us. SomeTurn Done s y us) tt n j st t ts)) (sym w.0) (asks_now v st t ts n a (free w.0) w.1);
+      fits = λ v st t ts a h. apart_fits s q x w.errand boot (middle s st t) a.more.run.up.1 (unjoined (peer_of (middle s st t) q) (apart v st t ts a (mid st t h))) w.fits;
+      begins = λ v st t ts a free h. (0, (let some = w.some in omega (arith, some)), (refl, h));
+      asks = λ ph n used v st t ts a free long few u. subst (λ (j : ℕ). (o : Option Rule) × ((plan_of s).ask x.number w.errand j (middle s st t) ≡ Some o) × (rule_made s (middle s st t) t ≡ o → SomeTurn Done s st (t ∷ ts) ⊎ Moved (plan_of s) (middle s) (after_turn s) (rule_made s) s.count (Pacing boot C s q x) (pacing_next boot C s q x) (Unit {0}) (λ _ n used y. (used ≡ 0) × P (peer_of y q)) (λ _ y us. SomeTurn Done s y us) tt n j st t ts)) (sym u.0) (asks_now v st t ts n a (free u.0) u.1);
     }
 
     answered : (v : Visit Errand) (st : State) (ts : List Turn) → VISIT_TURNS * s.count + VISIT_TURNS < length ts → Turns boot s v st ts → Paced (plan_of s) (whole s) v → Facts st → Tied s x.number q v st → Throughout C s st ts → P (peer_of st q) → SomeTurn Done s st ts
     answered v st ts long y paced facts tied holds h =
-        done (plan_of s) (middle s) (after_turn s) (rule_made s) s.count (Pacing boot C s q x) (pacing_next boot C s q x) x.number errands.Answer 0 Free (λ y. P (peer_of y q)) (Unit {0}) tt (λ _ n used y. (used ≡ 0) × P (peer_of y q)) (λ _ y us. SomeTurn Done s y us) duty v st ts x.low (omega arith) (omega arith) (omega (arith, long))
+        done (plan_of s) (middle s) (after_turn s) (rule_made s) s.count (Pacing boot C s q x) (pacing_next boot C s q x) x.number w.errand 0 Free (λ y. P (peer_of y q)) (Unit {0}) tt (λ _ n used y. (used ≡ 0) × P (peer_of y q)) (λ _ y us. SomeTurn Done s y us) duty v st ts x.low w.some w.most (let most = w.most in omega (arith, long))
         (record { ring = y.ring; places = y.places; follows = y.follows; more = record { run = record { runs = y.runs; up = y.up; holds = holds }; paced = paced; facts = facts; tied = tied } }) h
 
 -- what the errand asks for
@@ -255,7 +272,7 @@ module _ (boot : ℕ) (s : ScenarioPart) (q : ℕ) (x : Spot s.part s.count q) w
 
   pub seconds_stored : (v : Visit Errand) (st : State) (ts : List Turn) → VISIT_TURNS * s.count + VISIT_TURNS < length ts → Turns boot s v st ts → Paced (plan_of s) (whole s) v → Facts st → Tied s x.number q v st → Throughout Open s st ts → IsSome (peer_of st q).engage.echo → (peer_of st q).engage.second ≡ false → SomeTurn (Steps (IsFor q StoreSecond) s) s st ts
   seconds_stored v st ts long y paced facts tied holds some none =
-      answered boot Open s q x StoreSecond Unreasoned (λ p. Half p.engage) half_awaits (Steps (IsFor q StoreSecond) s)
+      answered boot Open s q x StoreSecond Unreasoned (λ p. Half p.engage) half_awaits (Steps (IsFor q StoreSecond) s) (answering s q)
       (λ v st t ts a h m e. a.more.run.holds.1.free)
       (λ v st t ts a h. none_is (peer_of (middle s st t) q).contact (λ m. both_not (peer_of (middle s st t) q).engage.second (((facts_mid s st t.before a.more.facts).stands q).met m).1 h.2))
       (λ v st t ts a free h. record { rule = StoreSecond; is = opened (peer_of (middle s st t) q) StoreSecond (opens_to (peer_of (middle s st t) q) h.0 a.more.run.holds.1.free) (by (peer_of (middle s st t) q) h); done = λ f. steps_by (IsFor q StoreSecond) s st t (ForPeer q StoreSecond) f refl })
@@ -285,11 +302,11 @@ module _ (boot : ℕ) (C : State → Type 0) (s : ScenarioPart) (q : ℕ) (x : S
   uncontacted_back st f h = let e = f.stands q in none_is (peer_of st q).contact (λ m. some_not (peer_of st q).engage.echo (e.second h.0 (e.met m).1) (e.back h.2).1)
 
   abbrev Turning : Visit Errand → State → List Turn → Type 0
-  Turning v st ts = IsAlong boot C s q x ClearEngagementBit NoEcho (λ p. Backing p.engage) backing_awaits Done v st ts
+  Turning v st ts = IsAlong boot C s q x ClearEngagementBit NoEcho (λ p. Backing p.engage) backing_awaits Done (answering s q) v st ts
 
   pub bits_cleared : (v : Visit Errand) (st : State) (ts : List Turn) → ((w : Visit Errand) (y : State) (t : Turn) (us : List Turn) → Turning w y (t ∷ us) → Backing (peer_of (middle s y t) q).engage → Steps (IsFor q ClearEngagementBit) s y t → Done y t) → VISIT_TURNS * s.count + VISIT_TURNS < length ts → Turns boot s v st ts → Paced (plan_of s) (whole s) v → Facts st → Tied s x.number q v st → Throughout C s st ts → (peer_of st q).engage.state ≡ Activating → (peer_of st q).engage.back_off ≡ true → SomeTurn Done s st ts
   bits_cleared v st ts claim long y paced facts tied holds active back =
-      answered boot C s q x ClearEngagementBit NoEcho (λ p. Backing p.engage) backing_awaits Done
+      answered boot C s q x ClearEngagementBit NoEcho (λ p. Backing p.engage) backing_awaits Done (answering s q)
       (λ v st t ts a h m e. (free (middle s st t) a.more.run.holds.1, λ i. unechoed v st t ts a h (e ∙ ap (λ (n : PeerRule). Some (ForPeer q n)) i)))
       (λ v st t ts a h. uncontacted_back (middle s st t) (facts_mid s st t.before a.more.facts) h)
       (λ v st t ts a page h. record { rule = ClearEngagementBit; is = opened (peer_of (middle s st t) q) ClearEngagementBit (opens_to (peer_of (middle s st t) q) h.0 (free (middle s st t) a.more.run.holds.1)) (ap (λ (b : Bool). if b then Some ClearEngagementBit else echo_step (peer_of (middle s st t) q).engage) (bit_goes (middle s st t) q (facts_mid s st t.before a.more.facts) h.0 h.1 h.2 page)); done = λ f. claim v st t ts a h (steps_by (IsFor q ClearEngagementBit) s st t (ForPeer q ClearEngagementBit) f refl) })
@@ -339,20 +356,20 @@ module _ (boot : ℕ) (s : ScenarioPart) (q : ℕ) (x : Spot s.part s.count q) w
 
   pub echoes_stored : (v : Visit Errand) (st : State) (ts : List Turn) → VISIT_TURNS * s.count + VISIT_TURNS < length ts → Turns boot s v st ts → Paced (plan_of s) (whole s) v → Facts st → Tied s x.number q v st → Throughout Actives s st ts → IsSome (peer_of st q).engage.read → (peer_of st q).engage.echo ≡ None → SomeTurn (Steps (IsFor q StoreEcho) s) s st ts
   echoes_stored v st ts long y paced facts tied holds read echo =
-      answered boot Actives s q x StoreEcho NoClear (λ p. Unechoed p.engage) unechoed_awaits (Steps (IsFor q StoreEcho) s)
+      answered boot Actives s q x StoreEcho NoClear (λ p. Unechoed p.engage) unechoed_awaits (Steps (IsFor q StoreEcho) s) (answering s q)
       (λ v st t ts a h m e. (a.more.run.holds.1.free, λ i. gone v st t ts a h (e ∙ ap (λ (n : PeerRule). Some (ForPeer q n)) i)))
       (λ v st t ts a h. let e = (facts_mid s st t.before a.more.facts).stands q in none_is (peer_of (middle s st t) q).contact (λ m. some_not (peer_of (middle s st t) q).engage.echo (e.second h.0 (e.met m).1) h.2))
       comes (λ v st t ts a h d. d) v st ts long y paced facts tied holds (((facts.stands q).active (first_holds Actives s st ts holds).state).0, ((facts.stands q).active (first_holds Actives s st ts holds).state).1, echo, read)
     where
-      gone : (v : Visit Errand) (st : State) (t : Turn) (ts : List Turn) → IsAlong boot Actives s q x StoreEcho NoClear (λ p. Unechoed p.engage) unechoed_awaits (Steps (IsFor q StoreEcho) s) v st (t ∷ ts) → Unechoed (peer_of (middle s st t) q).engage → rule_made s (middle s st t) t ≡ Some (ForPeer q ClearEngagementBit) → ⊥
+      gone : (v : Visit Errand) (st : State) (t : Turn) (ts : List Turn) → IsAlong boot Actives s q x StoreEcho NoClear (λ p. Unechoed p.engage) unechoed_awaits (Steps (IsFor q StoreEcho) s) (answering s q) v st (t ∷ ts) → Unechoed (peer_of (middle s st t) q).engage → rule_made s (middle s st t) t ≡ Some (ForPeer q ClearEngagementBit) → ⊥
       gone v st t ts a h e = bit_gone boot s q st t a.more.run.runs.0 a.more.run.up.0 (first_holds (IsUp boot) s (after_turn s st t) ts a.more.run.up.2) h.0 e (first_holds Actives s (after_turn s st t) ts a.more.run.holds.2).state
 
       echo_by : (p : Peer) → p.engage.echo ≡ None → p.engage.bit ≡ true → is_some p.engage.read ≡ true → echo_step p.engage ≡ Some StoreEcho
       echo_by p e b r = ap (λ (o : Option ℕ). if is_some o then step_if (not p.engage.second) StoreSecond else step_if (p.engage.bit && is_some p.engage.read) StoreEcho) e ∙ ap (λ (c : Bool). step_if (c && is_some p.engage.read) StoreEcho) b ∙ ap (λ (c : Bool). step_if c StoreEcho) r
 
-      comes : (v : Visit Errand) (st : State) (t : Turn) (ts : List Turn) → IsAlong boot Actives s q x StoreEcho NoClear (λ p. Unechoed p.engage) unechoed_awaits (Steps (IsFor q StoreEcho) s) v st (t ∷ ts) → Free boot Actives s q x StoreEcho NoClear (λ p. Unechoed p.engage) unechoed_awaits (Steps (IsFor q StoreEcho) s) st t → Unechoed (peer_of (middle s st t) q).engage → Comes boot Actives s q x StoreEcho NoClear (λ p. Unechoed p.engage) unechoed_awaits (Steps (IsFor q StoreEcho) s) st t
+      comes : (v : Visit Errand) (st : State) (t : Turn) (ts : List Turn) → IsAlong boot Actives s q x StoreEcho NoClear (λ p. Unechoed p.engage) unechoed_awaits (Steps (IsFor q StoreEcho) s) (answering s q) v st (t ∷ ts) → Free boot Actives s q x StoreEcho NoClear (λ p. Unechoed p.engage) unechoed_awaits (Steps (IsFor q StoreEcho) s) (answering s q) st t → Unechoed (peer_of (middle s st t) q).engage → Comes boot Actives s q x StoreEcho NoClear (λ p. Unechoed p.engage) unechoed_awaits (Steps (IsFor q StoreEcho) s) (answering s q) st t
       comes v st t ts a free h = by (is_backing_off (peer_of (middle s st t) q)) refl where
-        by : (b : Bool) → is_backing_off (peer_of (middle s st t) q) ≡ b → Comes boot Actives s q x StoreEcho NoClear (λ p. Unechoed p.engage) unechoed_awaits (Steps (IsFor q StoreEcho) s) st t
+        by : (b : Bool) → is_backing_off (peer_of (middle s st t) q) ≡ b → Comes boot Actives s q x StoreEcho NoClear (λ p. Unechoed p.engage) unechoed_awaits (Steps (IsFor q StoreEcho) s) (answering s q) st t
         by true e = record { rule = ClearEngagementBit; is = opened (peer_of (middle s st t) q) ClearEngagementBit (opens_to (peer_of (middle s st t) q) h.0 a.more.run.holds.1.free) (ap (λ (b : Bool). if b then Some ClearEngagementBit else echo_step (peer_of (middle s st t) q).engage) e); done = λ f. absurd (gone v st t ts a h f) }
         by false e = record { rule = StoreEcho; is = opened (peer_of (middle s st t) q) StoreEcho (opens_to (peer_of (middle s st t) q) h.0 a.more.run.holds.1.free) (ap (λ (b : Bool). if b then Some ClearEngagementBit else echo_step (peer_of (middle s st t) q).engage) e ∙ echo_by (peer_of (middle s st t) q) h.2 h.1 h.3); done = λ f. steps_by (IsFor q StoreEcho) s st t (ForPeer q StoreEcho) f refl }
 
@@ -374,3 +391,72 @@ module _ (boot : ℕ) (s : ScenarioPart) (q : ℕ) (x : Spot s.part s.count q) w
       none st ts (bits_cleared boot Keeps s q x (λ z c. c.free) (λ z t. ⊥) v st ts
       (λ w z t us a h d. bit_gone boot s q z t a.more.run.runs.0 a.more.run.up.0 (first_holds (IsUp boot) s (after_turn s z t) us a.more.run.up.2) h.0 (rule_is z t d) (first_holds Keeps s (after_turn s z t) us a.more.run.holds.2).state)
       long y paced facts tied holds (first_holds Keeps s st ts holds).state back)
+
+-- the own bit at a partner that was left and told
+abbrev pub Told : Engage → Type 0
+Told x = (x.area ≡ Leaving) × (x.bit ≡ true) × (x.told ≡ true)
+
+abbrev Whatever : Peer → PeerRule → Type 0
+Whatever p m = Unit {0}
+
+told_left : (a : Area) (bit : Bool) → a ≡ Leaving → bit ≡ true → is_left (record (cold_peer Old).engage { area = a; bit = bit }) ≡ true → ⊥
+told_left Leaving true e f g = cc
+told_left Leaving false e f g = absurd (cc)
+told_left Ready bit e f g = absurd (cc)
+told_left Off bit e f g = absurd (cc)
+told_left Old bit e f g = absurd (cc)
+
+leaving_ready : (a : Area) → a ≡ Leaving → a ≡ Ready → ⊥
+leaving_ready a e f = let g : Leaving ≡ Ready = sym e ∙ f in cc
+
+leaving_off : (a : Area) → a ≡ Leaving → a ≡ Off → ⊥
+leaving_off a e f = let g : Leaving ≡ Off = sym e ∙ f in cc
+
+told_steps : (y : Here) (p : Peer) (g : PeerGoing) (m : PeerRule) (w : ℕ) → peer_can y p m → Whatever p m → Told p.engage → (m ≡ ClearEngagementBit) ⊎ Told (peer_effect y (record p { numbers = g }) m w).local.engage
+told_steps y p g AskActivation w can n h = inr h
+told_steps y p g TakeFlags w can n h = inr (cond_peer (λ (x : Peer). Told x.engage) (is_bad_flags w) _ _ h h)
+told_steps y p g CloseArea w can n h = absurd (leaving_ready p.engage.area h.0 can.0)
+told_steps y p g ZeroMagic w can n h = inr h
+told_steps y p g ClearOldBit w can n h = inr h
+told_steps y p g (Prepare x) w can n h = absurd (leaving_off p.engage.area h.0 can.0)
+told_steps y p g OpenArea w can n h = absurd (leaving_off p.engage.area h.0 can.0)
+told_steps y p g SetEngagementBit w can n h = absurd (leaving_ready p.engage.area h.0 can.0)
+told_steps y p g ReadRecord w can n h = absurd (leaving_ready p.engage.area h.0 can.0)
+told_steps y p g StoreEcho w can n h = absurd (leaving_ready p.engage.area h.0 can.0)
+told_steps y p g StoreSecond w can n h = absurd (leaving_ready p.engage.area h.0 can.0)
+told_steps y p g ClearEngagementBit w can n h = inl refl
+told_steps y p g LookAtPage w can n h = inr (cond_peer (λ (x : Peer). Told x.engage) _ _ _ h h)
+told_steps y p g ClearDeactivationBit w can n h = absurd (leaving_off p.engage.area h.0 can)
+told_steps y p g TellPartner w can n h = inr (h.0, h.1, refl)
+
+told_awaits : Awaits Whatever (λ p. Told p.engage) ClearEngagementBit
+told_awaits = record {
+  acts = record { linked = λ p links h. h; unwanted = λ p h. h; wanted = λ p h. h };
+  linked = λ p links going h. h;
+  reasoned = λ o p h. h;
+  ended = λ kind p h. h;
+  freed = λ p l h. told_left p.engage.area p.engage.bit h.0 h.1 l;
+  steps = told_steps;
+}
+
+module _ (boot : ℕ) (s : ScenarioPart) (q : ℕ) (x : Spot s.part s.count q) where
+  abbrev Always : State → Type 0
+  Always st = Unit {0}
+
+  always : (us : List Turn) (y : State) → Throughout Always s y us
+  always [] y = tt
+  always (t ∷ us) y = (tt, tt, always us (after_turn s y t))
+
+  alone : (st : State) → Facts st → Told (peer_of st q).engage → (peer_of st q).contact ≡ None
+  alone st f h = none_is (peer_of st q).contact (λ m. leaving_ready (peer_of st q).engage.area h.0 ((f.stands q).met m).0)
+
+  clears_by : (p : Peer) → Told p.engage → copies_go_on p ≡ false → leave_at p ≡ Some ClearEngagementBit
+  clears_by p h none = ap (λ (a : Area). leave_by a p) h.0 ∙ ap (λ (b : Bool). if b then leave_bit p else None) h.1 ∙ ap (λ (b : Bool). if b then step_if (not (copies_go_on p)) ClearEngagementBit else Some TellPartner) h.2 ∙ ap (λ (b : Bool). step_if (not b) ClearEngagementBit) none
+
+  pub bits_left : (v : Visit Errand) (st : State) (ts : List Turn) → VISIT_TURNS * s.count + VISIT_TURNS < length ts → Turns boot s v st ts → Paced (plan_of s) (whole s) v → Facts st → Tied s x.number q v st → (peer_of st q).engage.area ≡ Leaving → (peer_of st q).engage.bit ≡ true → (peer_of st q).engage.told ≡ true → SomeTurn (Steps (IsFor q ClearEngagementBit) s) s st ts
+  bits_left v st ts long y paced facts tied left bit told =
+      answered boot Always s q x ClearEngagementBit Whatever (λ p. Told p.engage) told_awaits (Steps (IsFor q ClearEngagementBit) s) (leaving s q)
+      (λ v st t ts a h m e. tt)
+      (λ v st t ts a h. alone (middle s st t) (facts_mid s st t.before a.more.facts) h)
+      (λ v st t ts a page h. let f = facts_mid s st t.before a.more.facts in record { rule = ClearEngagementBit; is = clears_by (peer_of (middle s st t) q) h (calm (middle s st t) q f (alone (middle s st t) f h) (f.unread q h.0) page); done = λ i. steps_by (IsFor q ClearEngagementBit) s st t (ForPeer q ClearEngagementBit) i refl })
+      (λ v st t ts a h d. d) v st ts long y paced facts tied (always ts st) (left, bit, told)

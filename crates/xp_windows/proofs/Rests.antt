@@ -105,20 +105,8 @@ stopped (Some first) reason e (inl h) = h
 stopped (Some first) reason e (inr f) = absurd (cc)
 stopped None reason e h = downs reason e
 
-started : (x : Shake) → x.sent.open_complete ≡ true → shake_begun x ≡ true
-started x e = by x.sent.open_complete e where
-  by : (b : Bool) → b ≡ true → ((b || (x.sent.open_request || (x.sent.open_reply || (x.sent.close_request || x.sent.close_reply)))) || is_some x.reason) ≡ true
-  by true f = refl
-  by false f = absurd (cc)
-
-downs_by : (b : Bool) (reason : Reason) (e : End) → is_begun e ≡ b → Rests e → Quiet (if b then close_now e.shake.reason reason e else just e).local.sides.pull
-downs_by true reason e i (inl h) = stopped e.shake.reason reason e (inl h)
-downs_by true reason e i (inr on) = stopped e.shake.reason reason e (inr (connected_by e on).2)
-downs_by false reason e i (inl h) = h
-downs_by false reason e i (inr on) = absurd (let f = started e.shake (connected_by e on).1 in let g : true ≡ false = sym f ∙ i in cc)
-
-pub down_quiet : (reason : Reason) (e : End) → Rests e → Quiet (link_down reason e).local.sides.pull
-down_quiet reason e h = downs_by (is_begun e) reason e refl h
+pub down_quiet : (reason : Reason) (e : End) → Quiet (link_down reason e).local.sides.pull
+down_quiet reason e = record { counters = refl; copied = refl }
 
 -- the handshake goes on
 complete : (m : Option Contact) (a b : Bool) (r : Option Reason) → ((is_some m && (a && b)) && not (is_some r)) ≡ true → ((is_some m && (a && true)) && not (is_some r)) ≡ true
@@ -126,11 +114,6 @@ complete m a true r e = e
 complete (Some x) true false r e = absurd (cc)
 complete (Some x) false false r e = absurd (cc)
 complete None a false r e = absurd (cc)
-
-completes : (m : Option Contact) (a b : Bool) (r : Option Reason) → ((is_some m && (a && b)) && not (is_some r)) ≡ true → ((is_some m && (true && b)) && not (is_some r)) ≡ true
-completes m true b r e = e
-completes (Some x) false b r e = absurd (cc)
-completes None false b r e = absurd (cc)
 
 gets : (k : Kind) (e : End) → Rests e → Rests (kind_got k e)
 gets OpenComplete e (inl h) = inl h
@@ -150,8 +133,7 @@ lefts CloseReply e h = h
 lefts MsgRequest e h = h
 
 sends : (k : Kind) (e : End) → Rests e → Rests (end_sent k e)
-sends OpenComplete e (inl h) = inl h
-sends OpenComplete e (inr on) = inr (completes e.shake.meet e.shake.sent.open_complete e.shake.got.open_complete e.shake.reason on)
+sends OpenComplete e h = inl (record { counters = refl; copied = refl })
 sends OpenRequest e h = h
 sends OpenReply e h = h
 sends CloseRequest e h = h
@@ -289,7 +271,7 @@ rests_keep = record {
   got = λ k e i h. gets k e h;
   dropped = λ e h. h;
   owing = λ e h. rests_same e (record e { sides = record e.sides { pull = record e.sides.pull { owed = true } } }) refl refl refl h;
-  sized = λ e n m h. sizes e n m h;
+  sized = λ e size h. h;
   taken = λ ks e h. h;
   sent = λ k e can n h. sends k e h;
   told = λ e n h. h;
@@ -301,16 +283,12 @@ rests_keep = record {
   rings = λ e x h. h;
   pulls = λ m w e can n h. inr n;
   failed = λ kind e m n h. fails kind e h;
-  leaves = λ reason e h. inl (down_quiet reason e h);
+  leaves = λ reason e h. inl (down_quiet reason e);
   finishes = λ e h. inl (record { counters = refl; copied = refl });
-  joins = λ m e h. inl (record { counters = refl; copied = refl });
+  joins = λ new m e h. inl (record { counters = refl; copied = refl });
   boots = λ e h. inl (record { counters = refl; copied = refl });
   idle = inl (record { counters = refl; copied = refl });
 }
-  where
-    sizes : (e : End) (n m : ℕ) → Rests e → Rests (record e { sides = record e.sides { pull = record e.sides.pull { entries = n; limit = m; copied = []; run = 0 } } })
-    sizes e n m (inl h) = inl (record { counters = h.counters; copied = refl })
-    sizes e n m (inr on) = inr on
 
 known : (s : ScenarioPart) (v : Visit Errand) (st : State) (q c : ℕ) (r : Rule) (m : LinkRule) → Paced (plan_of s) (whole s) v → (planned (plan_of s) v st).rule ≡ Some r → r ≡ Link q c m → Copies (end_of st q c) m
 known s v st q c r (Pull m) paced e is = (planned_by s v st (Link q c (Pull m)) paced (e ∙ ap (λ (x : Rule). Some x) is)).meant
@@ -326,7 +304,7 @@ pub rests_next : (s : ScenarioPart) (q c : ℕ) (v : Visit Errand) (st : State) 
 rests_next s q c v st t paced may e h = turn_leaves Copies Rests rests_keep c s q st t may (λ r f m is. known s v (middle s st t) q c r m paced (sym e ∙ f) is) h
 
 pub rests_first : (s : ScenarioPart) (q c : ℕ) → Rests (end_of (start s) q c)
-rests_first s q c = start_has Copies Rests rests_keep c s q (λ l. inl (record { counters = refl; copied = refl }))
+rests_first s q c = start_has Copies Rests rests_keep c s q (λ new. inl (record { counters = refl; copied = refl })) (λ new l. inl (record { counters = refl; copied = refl }))
 
 -- while a partner isn't in contact no copy of a channel goes on with it
 module _ (c : ℕ) where
@@ -346,7 +324,7 @@ module _ (c : ℕ) where
 
   left_cut : (o : Option Reason) (p : Peer) → Rests (link_at p.links c) → Cut p → Cut (area_left_for o p).local
   left_cut None p r h = h
-  left_cut (Some reason) p r h = λ e. each_quiet (λ d x. link_down reason x) p (down_quiet reason (link_at p.links c) r)
+  left_cut (Some reason) p r h = λ e. each_quiet (λ d x. link_down reason x) p (down_quiet reason (link_at p.links c))
 
   contact_cut : (a : Bool) (stamp : ℕ) (p : Peer) → Cut p → Cut (if a then contact_made stamp p else same_peer p).local
   contact_cut true stamp p h = λ e. absurd (cc)
@@ -407,6 +385,6 @@ module _ (c : ℕ) where
       cold e = subst (λ (x : End). Quiet x.sides.pull) (sym (idle_at c)) (record { counters = refl; copied = refl })
 
   pub cut_first : (s : ScenarioPart) (q : ℕ) → Cut (peer_of (start s) q)
-  cut_first s q = peer_start Cut s q (λ ls. idle) (λ l p h. λ e. absurd (cc)) (λ p. λ e. each_quiet (λ d x. just (booted_end x)) p (record { counters = refl; copied = refl })) idle where
+  cut_first s q = peer_start Cut s q (λ ls. idle) (λ b l p h. λ e. absurd (cc)) (λ p. λ e. each_quiet (λ d x. just (booted_end x)) p (record { counters = refl; copied = refl })) idle where
     idle : (cold_peer Old).contact ≡ None → Quiet (link_at idle_links c).sides.pull
     idle e = subst (λ (x : End). Quiet x.sides.pull) (sym (idle_at c)) (record { counters = refl; copied = refl })

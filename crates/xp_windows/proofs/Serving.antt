@@ -40,8 +40,9 @@ use Rattle.xp_windows.proofs.Planned.{planned_by}
 use Rattle.xp_windows.proofs.Frame.{connected_by}
 use Rattle.xp_windows.proofs.Rests.{Rests}
 use Rattle.xp_windows.proofs.Facts.{Facts, facts_next, facts_first, none_copying}
+use Rattle.xp_windows.proofs.Opens.{areas_opened}
 use Rattle.xp_windows.proofs.Engages.{bits_set}
-use Rattle.xp_windows.proofs.Replies.{bits_cleared, echoes_stored, seconds_stored}
+use Rattle.xp_windows.proofs.Replies.{bits_left, bits_cleared, echoes_stored, seconds_stored}
 use Rattle.xp_windows.proofs.Records.{records_read}
 use Rattle.xp_windows.proofs.Looks.{Tied, tied_next, tied_first, looks_made}
 use Rattle.xp_windows.proofs.Boots.{AtBoot, boot_kept, boot_over, left_few}
@@ -151,6 +152,7 @@ owed s boot st window l long up w =
       activations = activations_taken boot s some w.visit st window enough y;
       deactivations = deactivations_taken boot s some w.visit st window enough y;
       looks = λ q p. let z = placed s q l p in looks_made s q z boot w.visit st window enough y x.paced (x.tied q z);
+      opens = λ q p off few h. let z = placed s q l p in areas_opened boot s q z w.visit st window enough y x.paced x.facts (x.tied q z) h off few;
       engages = λ q p h. let z = placed s q l p in bits_set boot s q z w.visit st window enough y x.paced x.facts (x.tied q z) h;
       records = λ q p h. let z = placed s q l p in records_read boot s q z w.visit st window enough y x.paced x.facts (x.tied q z) h;
       backs_off = λ q p active back h. let z = placed s q l p in bits_cleared boot (IsOpenTo q) s q z (λ a b. b.free) (Steps (IsFor q ClearEngagementBit) s) w.visit st window (λ a b t us d e f. f) enough y x.paced x.facts (x.tied q z) h active back;
@@ -164,6 +166,7 @@ owed s boot st window l long up w =
       stores = λ q c p owes h. gets_stored boot s q c (peer_placed s q c l p) p.2 w.visit st window enough y h owes;
       copies = λ q c p owes h. copies_made boot s q c (peer_placed s q c l p) p.2 w.visit st window long y x.paced h owes;
       sends = λ q c payload wait notify h. sends_made s q c payload wait notify boot some w.visit st window enough y h;
+      leaves = λ q p left bit told. let z = placed s q l p in bits_left boot s q z w.visit st window enough y x.paced x.facts (x.tied q z) left bit told;
       closes = λ q p ready reason. areas_closed boot s q (placed s q l p) w.visit st window enough y ready reason;
       tells = λ q p leaving bit told. partners_told boot s q (placed s q l p) w.visit st window enough y leaving bit told;
       takes = λ q c wait h. let p = taken_peer s st q c wait l (first_holds (IsTaking s q c wait) s st window h).now in takes_made boot s q c wait some (peer_placed s q c l p) p.2 w.visit st window enough y h;

@@ -45,7 +45,6 @@ pub owes_framed : Framed Owes
 owes_framed = record {
   owed = λ b x h. h;
   sent = λ b x y h. h;
-  sized = λ b x n m h. h;
   numbers = λ b x ns h. h;
   drains = λ b d x h. h;
   taking = λ b x o put h. h;
@@ -75,7 +74,6 @@ pub stores_framed : Framed Stores
 stores_framed = record {
   owed = λ b x h. h;
   sent = λ b x y h. h;
-  sized = λ b x n m h. h;
   numbers = λ b x ns h. h;
   drains = λ b d x h. h;
   taking = λ b x o put h. h;
@@ -100,7 +98,6 @@ unowed_framed : Framed Unowed
 unowed_framed = record {
   owed = λ b x h. h;
   sent = λ b x y h. h;
-  sized = λ b x n m h. h;
   numbers = λ b x ns h. h;
   drains = λ b d x h. h;
   taking = λ b x o put h. h;

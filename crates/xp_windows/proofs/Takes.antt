@@ -44,7 +44,6 @@ shows_framed : (there : Bool) → Framed (Shows there)
 shows_framed there = record {
   owed = λ b x h. h;
   sent = λ b x y h. h;
-  sized = λ b x n m h. h;
   numbers = λ b x ns h. h;
   drains = λ b d x h. h;
   taking = λ b x o put h. h;

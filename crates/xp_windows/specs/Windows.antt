@@ -11,13 +11,13 @@ use Rattle.xp_protocol.specs.declared.rule.LinkRule.{LinkRule}
 use Rattle.xp_protocol.specs.declared.rule.LinkRule.TheVariants.{Ring, Pull, Acknowledge, SetFlag}
 use Rattle.xp_protocol.specs.declared.rule.PullRule.TheVariants.{ReadCounters, ReadEntry}
 use Rattle.xp_protocol.specs.declared.rule.PeerRule.{PeerRule}
-use Rattle.xp_protocol.specs.declared.rule.PeerRule.TheVariants.{TakeFlags, CloseArea, SetEngagementBit, ReadRecord, StoreEcho, StoreSecond, ClearEngagementBit, LookAtPage, TellPartner}
+use Rattle.xp_protocol.specs.declared.rule.PeerRule.TheVariants.{TakeFlags, CloseArea, OpenArea, SetEngagementBit, ReadRecord, StoreEcho, StoreSecond, ClearEngagementBit, LookAtPage, TellPartner}
 use Rattle.xp_protocol.specs.declared.rule.OwnRule.{OwnRule}
 use Rattle.xp_protocol.specs.declared.rule.OwnRule.TheVariants.{TakeActivation, TakeDeactivation, ReadEngaged}
 use Rattle.xp_protocol.specs.declared.rule.Rule.{Rule}
 use Rattle.xp_protocol.specs.declared.rule.Rule.TheVariants.{Link, Peer as ForPeer, Own}
 use Rattle.xp_protocol.specs.Parts.{IsPeer, script_in}
-use Rattle.xp_protocol.specs.State.{State, Booting, Up, Ready, Leaving, Peer, End, end_of, peer_of, is_connected}
+use Rattle.xp_protocol.specs.State.{State, Booting, Up, Off, Ready, Leaving, Peer, End, end_of, peer_of, is_connected}
 use Rattle.xp_protocol.specs.declared.contact.PartnerState.TheVariants.{Activating}
 use Rattle.xp_protocol.specs.Pulling.{is_copying}
 use Rattle.xp_protocol.specs.Peering.{HasWaited, is_good}
@@ -105,13 +105,18 @@ pub record IsOpenTo (q : ℕ) (st : State) : Type 0 where
   pub ready : (peer_of st q).engage.area ≡ Ready
   pub free : (peer_of st q).engage.reason ≡ None
 
--- a partner is to be engaged: its page is good, and the own bit isn't set at it and was cleared long
--- enough ago
+-- a partner is wanted
+pub record IsWanted (q : ℕ) (st : State) : Type 0 where
+  pub wanted : (peer_of st q).wanted ≡ true
+
+-- a partner is to be engaged: its page is good, and the own bit isn't set at it and was cleared
+-- long enough ago
 pub record IsOffered (s : ScenarioPart) (q : ℕ) (st : State) : Type 0 where
   pub open_to : IsOpenTo q st
   pub good : is_good (peer_of st q).look ≡ true
   pub out : (peer_of st q).engage.bit ≡ false
-  pub waited : HasWaited (here_of s st q).wait (here_of s st q).turn (peer_of st q).engage.cleared_at
+  pub waited : HasWaited (here_of s st q).wait (here_of s st q).turn
+      (peer_of st q).engage.cleared_at
 
 -- the own bit is set at a partner that isn't in contact, and no reason to deactivate it stands
 pub record IsActivating (q : ℕ) (st : State) : Type 0 where
@@ -191,16 +196,16 @@ IsFor q m st r = r ≡ ForPeer q m
 abbrev pub IsOwn : OwnRule → State → Rule → Type 0
 IsOwn m st r = r ≡ Own m
 
--- a look is begun by a load where none goes on, and over with one after which none does: its fifth, or
--- one that fails
+-- a look is begun by a load where none goes on, and over with one after which none does: its fifth,
+-- or one that fails
 abbrev pub BeginsLook : Peer → Peer → Type 0
 BeginsLook p after = p.paging ≡ []
 
 abbrev pub EndsLook : Peer → Peer → Type 0
 EndsLook p after = after.paging ≡ []
 
--- the same of a copy of the partner's record: it is over with its last word, one that is refused, or
--- a load that fails
+-- the same of a copy of the partner's record: it is over with its last word, one that is refused,
+-- or a load that fails
 abbrev pub BeginsRecord : Peer → Peer → Type 0
 BeginsRecord p after = p.engage.reading ≡ None
 
@@ -225,6 +230,9 @@ pub record Owed (s : ScenarioPart) (st : State) (window : List Turn) : Type 0 wh
       SomeFrom (Changes BeginsLook LookAtPage s q) (Changes EndsLook LookAtPage s q) s st window
   pub engagements : Throughout (IsLeft s) s st window →
       SomeTurn (Steps (IsOwn ReadEngaged) s) s st window
+  pub opens : (q : ℕ) → IsPartner s q → (peer_of st q).engage.area ≡ Off →
+      (peer_of st q).engage.count < 4294967295 → Throughout (IsWanted q) s st window →
+      SomeTurn (Steps (IsFor q OpenArea) s) s st window
   pub engages : (q : ℕ) → IsPartner s q → Throughout (IsOffered s q) s st window →
       SomeTurn (Steps (IsFor q SetEngagementBit) s) s st window
   pub records : (q : ℕ) → IsPartner s q → Throughout (IsActivating q) s st window →
@@ -262,6 +270,9 @@ pub record Owed (s : ScenarioPart) (st : State) (window : List Turn) : Type 0 wh
   pub tells : (q : ℕ) → IsPartner s q → (peer_of st q).engage.area ≡ Leaving →
       (peer_of st q).engage.bit ≡ true → (peer_of st q).engage.told ≡ false →
       SomeTurn (Steps (IsFor q TellPartner) s) s st window
+  pub leaves : (q : ℕ) → IsPartner s q → (peer_of st q).engage.area ≡ Leaving →
+      (peer_of st q).engage.bit ≡ true → (peer_of st q).engage.told ≡ true →
+      SomeTurn (Steps (IsFor q ClearEngagementBit) s) s st window
 
 -- some consecutive turns, as many as a window has, and the state before them
 pub record IsWindow (s : ScenarioPart) (ts : List Turn) (st : State) (window : List Turn) :
