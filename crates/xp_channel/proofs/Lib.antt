@@ -4,3 +4,4 @@ pub mod Beginning
 pub mod Permitted
 pub mod Telling
 pub mod Refusing
+pub mod Errands

@@ -326,7 +326,8 @@ impl ChannelEnd {
     /// `answer`.
     #[tactic(auto, using(crate::proofs::Silent::with_notes_append))]
     pub fn down(&mut self, reason: Reason)
-        ensures { self.new ≡ kept (link_down reason self.old.end) self.old }
+        ensures end { self.new ≡ kept (link_down reason self.old.end) self.old }
+        ensures sent { self.new.end.shake.sent ≡ self.old.end.shake.sent }
     {
         if self.shake.is_begun() {
             self.close(reason);

@@ -406,6 +406,13 @@ impl Receiver {
         self.counters.is_some() || self.copied.len() > 0
     }
 
+    /// Whether a copy of the counters goes on.
+    pub fn is_copying_counters(&self) -> bool
+        ensures { result ≡ is_some self.now.counters }
+    {
+        self.counters.is_some()
+    }
+
     /// Whether a copy of the counters goes on, or is owed.
     pub fn wants_counters(&self) -> bool
         ensures { result ≡ is_some self.now.counters || self.now.owed }

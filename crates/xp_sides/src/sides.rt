@@ -740,6 +740,16 @@ impl Sides {
         }
     }
 
+    /// Whether a copy of the counters goes on.
+    pub fn is_copying_counters(&self) -> bool
+        ensures { result ≡ is_some self.now.sides.pull.counters }
+    {
+        match &self.there {
+            Some(there) => there.pull.is_copying_counters(),
+            None => false,
+        }
+    }
+
     /// Whether a copy of the counters goes on, or is owed.
     pub fn wants_counters(&self) -> bool
         ensures { result ≡ is_some self.now.sides.pull.counters || self.now.sides.pull.owed }

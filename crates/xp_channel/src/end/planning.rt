@@ -11,6 +11,8 @@ ghost use Rattle.xp_channel.specs.Room.{needs_sides, HasRoom, IsCountable};
 ghost use Rattle.xp_channel.specs.Planned.{end_plan, signal_plan, read_plan, flag_plan, flag_step, opening_step, may_load_entry, rule_wanted, wanted_by};
 ghost use Rattle.xp_channel.specs.Permitted.{ArePermitted, IfCan};
 
+mod errands;
+
 use crate::end::{ChannelEnd, Work};
 use xp_base::ids::{Channel, PartId};
 use xp_base::link::Kind;
