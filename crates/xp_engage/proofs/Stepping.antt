@@ -17,7 +17,7 @@ closed_none : (o : Option Reason) (r : Reason) (e : End) → (close_now o r e).r
 closed_none None r e = refl
 closed_none (Some first) r e = refl
 
-down_none : (r : Reason) (e : End) → (link_down r e).reason ≡ None
+pub down_none : (r : Reason) (e : End) → (link_down r e).reason ≡ None
 down_none r e = by (is_begun e) where
   by : (b : Bool) → first_reason (cond b (close_now e.shake.reason r e) (just e)).reason None ≡ None
   by true = ap (λ (o : Option Reason). first_reason o None) (closed_none e.shake.reason r e)
@@ -26,7 +26,7 @@ down_none r e = by (is_begun e) where
 four_none : (a b c d : Option Reason) → a ≡ None → b ≡ None → c ≡ None → d ≡ None → first_reason a (first_reason b (first_reason c d)) ≡ None
 four_none a b c d ha hb hc hd = rw (ha, hb, hc, hd) refl
 
-links_none : (f : ℕ → End → Effect End (List Note)) → ((c : ℕ) (e : End) → (f c e).reason ≡ None) → (p : Peer) → links_reason f p ≡ None
+pub links_none : (f : ℕ → End → Effect End (List Note)) → ((c : ℕ) (e : End) → (f c e).reason ≡ None) → (p : Peer) → links_reason f p ≡ None
 links_none f h p =
     four_none (f 0 (link_at p.links 0)).reason (f 1 (link_at p.links 1)).reason (f 2 (link_at p.links 2)).reason (f 3 (link_at p.links 3)).reason
     (h 0 (link_at p.links 0)) (h 1 (link_at p.links 1)) (h 2 (link_at p.links 2)) (h 3 (link_at p.links 3))

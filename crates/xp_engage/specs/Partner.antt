@@ -12,7 +12,7 @@ use Rattle.xp_protocol.specs.declared.contact.Look.TheVariants.{Unseen}
 use Rattle.xp_protocol.specs.declared.rule.PeerRule.{PeerRule}
 use Rattle.xp_protocol.specs.declared.rule.PeerRule.TheVariants.{TakeFlags, LookAtPage, ReadRecord, Prepare, OpenArea}
 use Rattle.xp_protocol.specs.Effects.{Effect, Note, Row}
-use Rattle.xp_protocol.specs.State.{State, Up, Peer, peer_of, Engage, Contact, warm_engage, first_contact, idle_links, none_going, are_new}
+use Rattle.xp_protocol.specs.State.{State, Up, Peer, peer_of, Engage, Contact, warm_engage, booted_engage, first_contact, idle_links, none_going, are_new}
 use Rattle.xp_protocol.specs.Peering.{Here, peer_can, peer_row, peer_effect, copies_go_on, IsAreaWord}
 use Rattle.xp_protocol.specs.Rules.{here_of, peer_answered, peer_life}
 use Rattle.xp_protocol.specs.Wanting.{mark_with, wanted_at}
@@ -50,6 +50,11 @@ new_partner own partner version stamp engage window = record {
   engage = engage;
   contact = None;
 }
+
+-- one in a boot that has just begun
+abbrev pub booted_partner : Partner → Partner
+booted_partner x =
+    record (new_partner x.own x.partner x.version x.stamp booted_engage 0) { wait = x.wait }
 
 abbrev pub warm_partner : ℕ → ℕ → ℕ → ℕ → ℕ → Partner
 warm_partner own partner version theirs window =

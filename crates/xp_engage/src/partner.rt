@@ -1,5 +1,5 @@
 // What is kept for a partner, as a machine.
-ghost use Rattle.std.specs.Prelude.{◌≡◌, ◌&&◌, nat_lt, Bool, ℕ, ◌<◌, ◌*◌, ◌-◌, ◌^◌, IfSome, IsSome, Some, None, true, false};
+ghost use Rattle.std.specs.Prelude.{◌≡◌, ◌&&◌, nat_lt, Bool, ℕ, ◌<◌, ◌*◌, ◌-◌, ◌^◌, IfSome, IsSome, is_some, Some, None, true, false};
 ghost use Rattle.xp_protocol.specs.State.{Off, are_new, booted_engage, cold_engage};
 ghost use Rattle.xp_base.specs.declared.step.OpKind.TheVariants.{Or, Store};
 ghost use Rattle.xp_base.specs.declared.layout.TheConstants.{RECORD_WORDS};
@@ -12,7 +12,7 @@ ghost use Rattle.xp_protocol.specs.declared.rule.Rule.TheVariants.{Peer as ForPe
 ghost use Rattle.xp_protocol.specs.Rules.{Can, wanted_of};
 ghost use Rattle.xp_protocol.specs.Peering.{is_good, IsAreaWord, field_number, field_word, may_open, is_off, is_prepared, copies_go_on, try_contact, magic_read, place_read, last_read, record_read, is_wrong, look_reason, freed_engage, end_reason};
 ghost use Rattle.xp_engage.specs.PartnerInside.{area_seen, going};
-ghost use Rattle.xp_engage.specs.Partner.{new_partner, warm_partner, alone, alone_by, seen_in, here, step_wanted, made, stepped, step_reason, is_made, is_copy, IsStorable, IsPermitted, IsMade, MayAnswer, IsStateOf, unnumbered};
+ghost use Rattle.xp_engage.specs.Partner.{new_partner, warm_partner, booted_partner, alone, alone_by, seen_in, here, step_wanted, made, stepped, step_reason, is_made, is_copy, IsStorable, IsPermitted, IsMade, MayAnswer, IsStateOf, unnumbered};
 ghost use Rattle.xp_plan.specs.PeerSteps.{prepare_at, engage_at, answer_at, record_at, leave_at, is_open_to, has_waited};
 ghost use Rattle.xp_engage.specs.Next.{partner_next, for_partner, wanted_for};
 ghost use Rattle.xp_engage.specs.Learning.{faulted, fed, wanted_as, shown_by, stamp_shown, looked_at, heard, engaged_by, flags_noted, is_freed, sessions_of, state_told};
@@ -361,8 +361,8 @@ impl PartnerEnd {
         self.record_step(0)
     }
 
-    // Whether the own memory is open, and no reason to deactivate the partner stands.
-    fn is_open(&self) -> bool
+    /// Whether the own memory is open, and no reason to deactivate the partner stands.
+    pub fn is_open(&self) -> bool
         ensures { result ≡ is_open_to self.now.engage }
     {
         matches!(self.area.state, AreaState::Ready) && self.reason.is_none()
@@ -973,6 +973,31 @@ impl PartnerEnd {
         self.bit.back_off = false;
     }
 
+    /// The partition boots: nothing is known of the partner, and the own memory for it is as the
+    /// former boot left it.
+    pub fn boot(&mut self)
+        ensures { self.new ≡ booted_partner self.old }
+    {
+        let wait = self.wait;
+        *self = PartnerEnd::cold(
+            self.own,
+            self.partner,
+            self.version,
+            self.stamp,
+            0,
+            AreaState::Old,
+            false,
+        );
+        self.wait = wait;
+    }
+
+    /// The boot is over, with this stamp.
+    pub fn set_stamp(&mut self, stamp: u32)
+        ensures { self.new ≡ record self.old { stamp = stamp } }
+    {
+        self.stamp = stamp;
+    }
+
     /// The own heartbeat mask was stored, with the partner's bit or without it.
     pub fn masked(&mut self, stored: bool)
         ensures { self.new ≡ record self.old { masked = stored } }
@@ -1010,6 +1035,41 @@ impl PartnerEnd {
         ensures { area_seen result ≡ self.now.engage.area }
     {
         self.area.state
+    }
+
+    /// The partition.
+    pub fn own(&self) -> PartId
+        ensures { result ≡ self.now.own }
+    {
+        self.own
+    }
+
+    /// The partner.
+    pub fn partner(&self) -> PartId
+        ensures { result ≡ self.now.partner }
+    {
+        self.partner
+    }
+
+    /// The word of the own version.
+    pub fn version(&self) -> u64
+        ensures { result ≡ self.now.version }
+    {
+        self.version
+    }
+
+    /// Whether the partner's session stands as the own echo.
+    pub fn has_echo(&self) -> bool
+        ensures { result ≡ is_some self.now.engage.echo }
+    {
+        self.exchange.echo.is_some()
+    }
+
+    /// Whether a copy of the partner's record goes on.
+    pub fn is_reading(&self) -> bool
+        ensures { result ≡ is_some self.now.engage.reading }
+    {
+        self.exchange.copy.is_some()
     }
 
     /// Whether the own bit stands at the partner.
