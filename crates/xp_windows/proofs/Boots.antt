@@ -1,32 +1,27 @@
 -- A partition that boots makes a step of its boot in each turn, wherever it is on its rounds, and each
 -- of them leaves fewer to be made: so its boot is over long before a window is.
-use Rattle.std.proofs.Common.{◌≡◌, ℕ, zero, suc, ◌+◌, ◌*◌, ◌<◌, ◌≤◌, Bool, true, false, ◌&&◌, cond, List, [], ◌∷◌, ◌++◌, length, refl, ap, sym, ◌∙◌, subst, arith, inl, inr, ◌⊎◌, get_or-set_same, Option, Some, None}
-use Rattle.std.specs.Prelude.{IsSome, is_some, not, nat_eq, nat_lt, if◌then◌else◌, slice_set, slice_index_or}
+use Rattle.std.proofs.Common.{◌≡◌, ℕ, suc, ◌+◌, ◌*◌, ◌<◌, ◌≤◌, Bool, true, false, cond, List, [], ◌∷◌, length, refl, ap, sym, ◌∙◌, subst, arith, inl, inr, ◌⊎◌, Option, Some, None}
+use Rattle.std.specs.Prelude.{is_some, not, nat_eq, nat_lt, if◌then◌else◌, slice_set}
 use Rattle.std.proofs.lemmas.Bool.Decides.{nat_tests}
-use Rattle.std.proofs.lemmas.Bool.{cases_lt}
 use Rattle.xp_base.specs.declared.step.Answer.{Answer}
 use Rattle.xp_base.specs.declared.step.Answer.TheVariants.{Word, Failed}
 use Rattle.xp_base.specs.declared.step.CopyMark.{CopyMark}
 use Rattle.xp_base.specs.History.{Act, Marked, Turn}
 use Rattle.xp_script.specs.declared.part.ScenarioPart.{ScenarioPart}
-use Rattle.xp_rounds.specs.declared.rounds.Place.{Place}
-use Rattle.xp_rounds.specs.declared.rounds.Place.TheVariants.{Own as OwnPlace, Partner as PartnerPlace}
 use Rattle.xp_rounds.specs.declared.rounds.TheConstants.{VISIT_TURNS}
-use Rattle.xp_rounds.specs.Ring.{Ring, IsRing, passed, after_turn as ring_turned, place_at}
-use Rattle.xp_rounds.specs.Visit.{Visit, Found, pick, planned, planned_here, turn_spent, seek, seek_anew, seek_on}
+use Rattle.xp_rounds.specs.Ring.{IsRing, passed, place_at}
+use Rattle.xp_rounds.specs.Visit.{Visit, Found, pick, planned, planned_here, seek, seek_anew, seek_on}
 use Rattle.xp_protocol.specs.declared.rule.PeerRule.{PeerRule}
 use Rattle.xp_protocol.specs.declared.rule.PeerRule.TheVariants.{ZeroMagic, ClearOldBit}
 use Rattle.xp_protocol.specs.declared.rule.OwnRule.TheVariants.{ReadStamp, ZeroMask, ZeroOffline, WriteStamp}
 use Rattle.xp_protocol.specs.declared.rule.Rule.{Rule}
 use Rattle.xp_protocol.specs.declared.rule.Rule.TheVariants.{Peer as ForPeer, Own}
 use Rattle.xp_protocol.specs.Parts.{fails_at}
-use Rattle.xp_protocol.specs.State.{State, Boot, Engage, Peer, Life, Booting, Up, Halted, Old, cold_peer, peer_at}
+use Rattle.xp_protocol.specs.State.{State, Engage, Peer, Life, Booting, Up, peer_at}
 use Rattle.xp_protocol.specs.Peering.{with_reason}
 use Rattle.xp_protocol.specs.Rules.{after_answer, mark_of}
 use Rattle.xp_protocol.specs.Acts.{after_acts, MayActs}
-use Rattle.xp_protocol.specs.Decode.{rule_of}
-use Rattle.xp_protocol.specs.Runs.{May, MayMake, MayStep, RunsFrom, after_ruled, after_step, after_turn, acted, turn_counted, is_failed}
-use Rattle.xp_protocol.proofs.Frames.{AreAll}
+use Rattle.xp_protocol.specs.Runs.{May, MayMake, RunsFrom, after_ruled, after_step, after_turn, acted, turn_counted, is_failed}
 use Rattle.xp_plan.specs.declared.errand.Errand.{Errand}
 use Rattle.xp_plan.specs.declared.errand.Errand.TheVariants as errands
 use Rattle.xp_plan.specs.EndSteps.{step_if, or_else}
@@ -35,7 +30,7 @@ use Rattle.xp_plan.specs.Plan.{asked, ask_by, errands_of, agenda_by, plan_of, fi
 use Rattle.xp_windows.specs.Windows.{middle, Throughout, IsBooting}
 use Rattle.xp_windows.specs.Visited.{rule_by, rule_made, visit_after, FollowsFrom}
 use Rattle.xp_windows.proofs.Places.{first_holds}
-use Rattle.xp_windows.proofs.Lives.{acts_life, acts_boots, acted_life, acted_boots, step_booting, on_turn, before_turn}
+use Rattle.xp_windows.proofs.Lives.{acts_life, acted_life, step_booting, on_turn, before_turn}
 
 -- the steps that are left of a boot
 abbrev one_left : Bool → ℕ

@@ -42,7 +42,7 @@ use Rattle.xp_windows.proofs.Places.{Turns, Run, run_next, first_holds, asks, fi
 use Rattle.xp_windows.proofs.Asked.{steps_by}
 use Rattle.xp_windows.proofs.Throughout.{asked_link}
 use Rattle.xp_windows.proofs.Frame.{While, Framed, OwnSteps, stands, hears_keep, pulled_keeps, begun_keeps, answered_keeps, noticed_keeps}
-use Rattle.xp_windows.proofs.Keeps.{ActsKeep, acts_keep, turn_keeps}
+use Rattle.xp_windows.proofs.Keeps.{ActsKeep, acts_keep, turn_keeps, among}
 use Rattle.xp_windows.proofs.Made.{Does, step_makes}
 use Rattle.xp_windows.proofs.Polls.{Load, Going, Asker, asker, one_place}
 
@@ -232,13 +232,13 @@ module _ (boot : ℕ) (s : ScenarioPart) (q c : ℕ) (x : Spot s.part s.count q)
       inl (steps_by (At q c EndsCopy) s st t (Load q c) (a.follows.0 ∙ y.0) (refl, refl, g))
 
   going_after : (st : State) (t : Turn) (ts : List Turn) → Run boot (IsOpen q c) s st (t ∷ ts) → rule_made s (middle s st t) t ≡ Some (Load q c) → Still (end_of (middle s st t) q c) → While Goes (end_of (after_turn s st t) q c)
-  going_after st t ts r e none = step_makes s q c (While Goes) goes_acts st t (Pull ReadCounters) r.runs.0 r.holds.1.met r.holds.1.connected (after_holds st t ts r) e makes where
+  going_after st t ts r e none = step_makes s q c (While Goes) goes_acts st t (Pull ReadCounters) r.runs.0 r.holds.1.met (among (middle s st t) q c r.holds.1.connected) (after_holds st t ts r) e makes where
     makes : (a : Answer) → is_failed a ≡ fails_at s (mark_of s (middle s st t) (Load q c)) → (Does s q c (middle s st t) (Pull ReadCounters) a).reason ≡ None → While Goes (Does s q c (middle s st t) (Pull ReadCounters) a).local
     makes (Word w) f g = λ a b. begun_going (end_of (middle s st t) q c) (end_of (middle s st t) q c).sides.pull.counters w none g
     makes Failed f g = absurd (cc)
 
   still_after : (st : State) (t : Turn) (ts : List Turn) → Run boot (IsOpen q c) s st (t ∷ ts) → rule_made s (middle s st t) t ≡ Some (Load q c) → Going (end_of (middle s st t) q c) → While Rests (end_of (after_turn s st t) q c)
-  still_after st t ts r e going = step_makes s q c (While Rests) rests_acts st t (Pull ReadCounters) r.runs.0 r.holds.1.met r.holds.1.connected (after_holds st t ts r) e makes where
+  still_after st t ts r e going = step_makes s q c (While Rests) rests_acts st t (Pull ReadCounters) r.runs.0 r.holds.1.met (among (middle s st t) q c r.holds.1.connected) (after_holds st t ts r) e makes where
     makes : (a : Answer) → is_failed a ≡ fails_at s (mark_of s (middle s st t) (Load q c)) → (Does s q c (middle s st t) (Pull ReadCounters) a).reason ≡ None → While Rests (Does s q c (middle s st t) (Pull ReadCounters) a).local
     makes (Word w) f g = λ a b. over_still (end_of (middle s st t) q c) (end_of (middle s st t) q c).sides.pull.counters w going
     makes Failed f g = λ a b. refl

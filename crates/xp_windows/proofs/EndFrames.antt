@@ -1,22 +1,20 @@
 -- What acts and steps leave of a fact of one end: all of the handshake and all rules are said once, and
 -- a fact says what it has to stand.
-use Rattle.std.proofs.Common.{◌≡◌, ℕ, zero, suc, ◌≤◌, Bool, true, false, ◌&&◌, List, [], ◌∷◌, map, length, refl, ap, sym, ◌∙◌, subst, Option, Some, None}
-use Rattle.std.specs.Prelude.{IsSome, is_some, not, nat_eq, if◌then◌else◌}
-use Rattle.std.proofs.lemmas.List.{get_or_past}
+use Rattle.std.proofs.Common.{◌≡◌, ℕ, ◌≤◌, Bool, true, false, ◌&&◌, List, [], map, length, refl, ap, sym, ◌∙◌, subst, Option, Some, None}
+use Rattle.std.specs.Prelude.{is_some, not, nat_eq, if◌then◌else◌}
 use Rattle.xp_base.specs.declared.link.Kind.{Kind}
 use Rattle.xp_base.specs.declared.link.Kind.TheVariants.{CloseRequest, CloseReply, OpenRequest, OpenReply, OpenComplete, MsgRequest}
 use Rattle.xp_base.specs.declared.reason.Reason.{Reason}
-use Rattle.xp_base.specs.declared.reason.Reason.TheVariants.{OtherGoingDown, PartnerClosed, UnequalSizes, BadArgs, BadFlags}
+use Rattle.xp_base.specs.declared.reason.Reason.TheVariants.{OtherGoingDown, BadFlags}
 use Rattle.xp_base.specs.declared.step.Answer.{Answer}
 use Rattle.xp_base.specs.declared.step.Answer.TheVariants.{Word, Failed}
 use Rattle.xp_base.specs.declared.step.CopyKind.{CopyKind}
 use Rattle.xp_base.specs.declared.step.CopyMark.{CopyMark}
 use Rattle.xp_base.specs.History.{Act, Marked, Turn}
-use Rattle.xp_base.specs.Kinds.{Kinds, kinds_in, without, also, next_of}
+use Rattle.xp_base.specs.Kinds.{Kinds, kinds_in}
 use Rattle.xp_script.specs.declared.part.Link.{Link as ScenarioLink}
 use Rattle.xp_script.specs.declared.part.ScenarioPart.{ScenarioPart}
 use Rattle.xp_protocol.specs.declared.contact.Contact.{Contact}
-use Rattle.xp_protocol.specs.declared.contact.Replied.{Replied}
 use Rattle.xp_protocol.specs.declared.rule.Argument.{Argument}
 use Rattle.xp_protocol.specs.declared.rule.LinkRule.{LinkRule}
 use Rattle.xp_protocol.specs.declared.rule.LinkRule.TheVariants.{Ring, Pull, Acknowledge, SetFlag, ZeroGet, ZeroPut, StoreArgument, ReadArgument}
@@ -26,34 +24,27 @@ use Rattle.xp_protocol.specs.declared.rule.OwnRule.TheVariants.{ReadEngaged, Tak
 use Rattle.xp_protocol.specs.declared.rule.PullRule.{PullRule}
 use Rattle.xp_protocol.specs.declared.rule.Rule.{Rule}
 use Rattle.xp_protocol.specs.declared.rule.Rule.TheVariants.{Link, Peer as ForPeer, Own}
-use Rattle.xp_protocol.specs.Effects.{Effect, Note, SendNote, PullNote, BySend, ByPull, just, and_then}
+use Rattle.xp_protocol.specs.Effects.{Effect, Note, BySend, ByPull, just, and_then}
 use Rattle.xp_protocol.specs.Sending.{Sending, ring_effect}
-use Rattle.xp_protocol.specs.Pulling.{Pulling, pull_effect}
-use Rattle.xp_protocol.specs.State.{State, Size, first_met, End, each, is_connected, Reading, Peer, PeerGoing, Old, cold_peer, idle_end, idle_links, end_of, peer_at, peer_of, link_at, size_in, set_link, warm_end, warm_peer, opened_peers, base_peer, first_peers, opened_state}
-use Rattle.xp_protocol.specs.Linking.{hear, hears, by_send, by_pull, sender_counters, release_notes, acknowledged, close_now, down_notes, down_end, channel_closed, link_down, link_finished, link_joined, booted_end, epoch_over, is_ended, limit_in, are_unequal, unequal, changed, kind_left, kind_got, is_request, request_handled, reply_handled, is_code, code_handled, message_got, refused, kind_refused, well_handled, handled, has_argument, handled_next, settle, settled, with_taken, flags_got, end_sent, control_sent, flag_sent, argument_stored, with_argument, link_can, link_effect, copy_failed}
-use Rattle.xp_protocol.specs.Peering.{Here, peer_can, peer_effect, peer_read, deactivation_heard, area_off, same_peer, is_left, is_flagged, with_flags, is_bad_flags, flags_taken, area_left_for, try_contact, contact_made, contact_of, record_read, has_shown, is_wrong, is_magic, with_reason, end_reason, copy_ended, peer_failed, booted_peer}
+use Rattle.xp_protocol.specs.Pulling.{pull_effect}
+use Rattle.xp_protocol.specs.State.{State, first_met, End, each, Reading, Peer, PeerGoing, Old, cold_peer, idle_end, end_of, peer_of, link_at, set_link, warm_end, opened_state}
+use Rattle.xp_protocol.specs.Linking.{sender_counters, release_notes, link_down, link_finished, link_joined, booted_end, changed, settled, with_taken, flags_got, end_sent, control_sent, flag_sent, argument_stored, with_argument, link_can, link_effect, copy_failed}
+use Rattle.xp_protocol.specs.Peering.{Here, peer_effect, peer_read, deactivation_heard, area_off, same_peer, is_left, is_flagged, with_flags, is_bad_flags, flags_taken, area_left_for, try_contact, contact_made, contact_of, record_read, has_shown, is_wrong, is_magic, with_reason, end_reason, booted_peer}
 use Rattle.xp_protocol.specs.Rules.{Can, numbered, link_answered, end_failed, place_for, here_of, mark_of, peer_answered, after_answer}
-use Rattle.xp_protocol.specs.Acts.{Aim, aimed, with_aim, command_begun, after_act, after_acts}
-use Rattle.xp_protocol.specs.Decode.{rule_of}
-use Rattle.xp_protocol.specs.Runs.{May, MayMake, MayStep, after_ruled, after_step, after_turn, acted, turn_counted, moment, moment_by, restart_comes, stop_comes, is_over, start}
+use Rattle.xp_protocol.specs.Acts.{after_acts}
+use Rattle.xp_protocol.specs.Runs.{May, MayMake, after_ruled, after_step, after_turn, acted, turn_counted, moment, moment_by, restart_comes, stop_comes, is_over, start}
 use Rattle.xp_protocol.proofs.Slots.{at_each, at_slot, at_peer}
-use Rattle.xp_protocol.proofs.Frames.{cond_peer, wanted_at, idle_at}
+use Rattle.xp_protocol.proofs.Frames.{cond_peer, idle_at}
 use Rattle.xp_protocol.proofs.Opened.{opened_fact}
 use Rattle.xp_windows.specs.Windows.{middle}
 use Rattle.xp_windows.specs.Visited.{rule_by, rule_made}
 use Rattle.xp_windows.proofs.Keeps.{ActsKeep, acts_keep}
+use Rattle.xp_windows.proofs.Settles.{SettleKeeps, hears_keep, change, all_settles}
 
 -- what a fact of an end has to stand; N says what is known of a step at the end besides
 pub record EndKeeps (N : End → LinkRule → Type 0) (P : End → Type 0) : Type 0 where
   pub acts : ActsKeep P
-  pub heard : (n : Note) (e : End) → P e → P (hear n e)
-  pub down : (reason : Reason) (e : End) → e.shake.reason ≡ None → P e → P (down_end reason e)
-  pub over : (e : End) → is_ended e ≡ true → P e → P (epoch_over e).local
-  pub left : (k : Kind) (e : End) → refused k e ≡ true → P e → P (kind_left k e)
-  pub got : (k : Kind) (e : End) → refused k e ≡ false → P e → P (kind_got k e)
-  pub dropped : (e : End) → P e → P (record e { shake = record e.shake { taken = without MsgRequest e.shake.taken } })
-  pub owing : (e : End) → P e → P (record e { sides = record e.sides { pull = record e.sides.pull { owed = true } } })
-  pub sized : (e : End) (size : Option Size) → P e → P (record e { shake = record e.shake { their_size = size } })
+  pub settling : SettleKeeps P
   pub taken : (ks : Kinds) (e : End) → P e → P (with_taken ks e)
   pub sent : (k : Kind) (e : End) → link_can e (SetFlag k) → N e (SetFlag k) → P e → P (end_sent k e)
   pub told : (e : End) → N e (SetFlag MsgRequest) → P e → P (flag_sent MsgRequest e).local
@@ -72,101 +63,21 @@ pub record EndKeeps (N : End → LinkRule → Type 0) (P : End → Type 0) : Typ
   pub idle : P idle_end
 
 module _ (N : End → LinkRule → Type 0) (P : End → Type 0) (z : EndKeeps N P) where
-  hears_keep : (ns : List Note) (e : End) → P e → P (hears ns e)
-  hears_keep [] e h = h
-  hears_keep (n ∷ ns) e h = hears_keep ns (hear n e) (z.heard n e h)
-
-  -- the channel closes, and an epoch ends
-  closes : (o : Option Reason) (reason : Reason) (e : End) → e.shake.reason ≡ o → P e → P (close_now o reason e).local
-  closes (Some first) reason e i h = h
-  closes None reason e i h = hears_keep (down_notes reason e) (down_end reason e) (z.down reason e i h)
-
-  channel : (reason : Reason) (e : End) → P e → P (channel_closed reason e).local
-  channel reason e h = closes e.shake.reason reason e refl h
-
-  unequals : (b : Bool) (e : End) → P e → P (if b then channel_closed (UnequalSizes (limit_in e.shake.own_size) (limit_in e.shake.their_size)) e else just e).local
-  unequals true e h = channel (UnequalSizes (limit_in e.shake.own_size) (limit_in e.shake.their_size)) e h
-  unequals false e h = h
-
-  changes : (b : Bool) (e : End) → is_ended e ≡ b → P e → P (if b then epoch_over e else unequal e).local
-  changes true e i h = z.over e i h
-  changes false e i h = unequals (are_unequal e) e h
-
-  change : (e : End) → P e → P (changed e).local
-  change e h = changes (is_ended e) e refl h
-
-  -- flags are handled
-  messages : (b : Bool) (e : End) → P e → P (if b then just (record e { sides = record e.sides { pull = record e.sides.pull { owed = true } } }) else just e).local
-  messages true e h = z.owing e h
-  messages false e h = h
-
-  request_by : (b : Bool) (w : ℕ) (e : End) → P e → P (if b then just (record e { shake = record e.shake { their_size = Some (size_in w) } }) else channel_closed (BadArgs w) e).local
-  request_by true w e h = z.sized e (Some (size_in w)) h
-  request_by false w e h = channel (BadArgs w) e h
-
-  requested : (o : Option ℕ) (e : End) → P e → P (request_handled o e).local
-  requested None e h = h
-  requested (Some w) e h = request_by (is_request w) w e h
-
-  reply_by : (b : Bool) (w : ℕ) (e : End) → P e → P (if b then just e else channel_closed (BadArgs w) e).local
-  reply_by true w e h = h
-  reply_by false w e h = channel (BadArgs w) e h
-
-  replied : (o : Option Replied) (e : End) → P e → P (reply_handled o e).local
-  replied None e h = h
-  replied (Some x) e h = reply_by x.right x.word e h
-
-  code_by : (b : Bool) (w : ℕ) (e : End) → P e → P (if b then channel_closed (PartnerClosed w) e else channel_closed (BadArgs w) e).local
-  code_by true w e h = channel (PartnerClosed w) e h
-  code_by false w e h = channel (BadArgs w) e h
-
-  coded : (o : Option ℕ) (e : End) → P e → P (code_handled o e).local
-  coded None e h = h
-  coded (Some w) e h = code_by (is_code w) w e h
-
-  well : (k : Kind) (e : End) → refused k e ≡ false → P e → P (well_handled k e).local
-  well MsgRequest e i h = let y = record e { shake = record e.shake { taken = without MsgRequest e.shake.taken } } in messages (is_connected y) y (z.dropped e h)
-  well OpenRequest e i h = requested e.shake.request (kind_got OpenRequest e) (z.got OpenRequest e i h)
-  well OpenReply e i h = replied e.shake.reply (kind_got OpenReply e) (z.got OpenReply e i h)
-  well CloseRequest e i h = coded e.shake.code (kind_got CloseRequest e) (z.got CloseRequest e i h)
-  well CloseReply e i h = z.got CloseReply e i h
-  well OpenComplete e i h = z.got OpenComplete e i h
-
-  handles : (b : Bool) (k : Kind) (e : End) → refused k e ≡ b → P e → P (if b then kind_refused k e else well_handled k e).local
-  handles true k e i h = z.left k e i h
-  handles false k e i h = well k e i h
-
-  handles_next : (b : Bool) (k : Kind) (e : End) → P e → P (if b then and_then (handled k e) changed else just e).local
-  handles_next true k e h = change (handled k e).local (handles (refused k e) k e refl h)
-  handles_next false k e h = h
-
-  next : (o : Option Kind) (e : End) → P e → P (handled_next o e).local
-  next None e h = h
-  next (Some k) e h = handles_next (has_argument k e.shake) k e h
-
-  settles : (n : ℕ) (e : End) → P e → P (settle n e).local
-  settles zero e h = h
-  settles (suc n) e h = let o = next_of e.shake.got.close_request e.shake.taken in settles n (handled_next o e).local (next o e h)
-
-  all_settles : (e : End) → P e → P (settled e).local
-  unfolding settled
-  all_settles e h = settles 6 e h
-
   flags : (b : Bool) (ks : Kinds) (e : End) → P e → P (if b then and_then (just (with_taken ks e)) settled else just e).local
-  flags true ks e h = all_settles (with_taken ks e) (z.taken ks e h)
+  flags true ks e h = all_settles P z.settling (with_taken ks e) (z.taken ks e h)
   flags false ks e h = h
 
   pub flags_keep : (ks : Kinds) (e : End) → P e → P (flags_got ks e).local
   flags_keep ks e h = flags (is_some e.shake.meet) ks e h
 
   controls : (k : Kind) (e : End) → link_can e (SetFlag k) → N e (SetFlag k) → P e → P (control_sent k e).local
-  controls k e can n h = all_settles (changed (end_sent k e)).local (change (end_sent k e) (z.sent k e can n h))
+  controls k e can n h = all_settles P z.settling (changed (end_sent k e)).local (change P z.settling (end_sent k e) (z.sent k e can n h))
 
   -- a step of the end
   words : (place : ℕ) (e : End) (m : LinkRule) (w : ℕ) → link_can e m → N e m → P e → P (link_effect place e m w).local
-  words place e (Ring m) w can n h = let f = ring_effect e.sides.send m w in hears_keep (map BySend f.notes) (record e { sides = record e.sides { send = f.local } }) (z.rings e f.local h)
-  words place e (Pull m) w can n h = let f = pull_effect (sender_counters e.sides) e.sides.pull m w in hears_keep (map ByPull f.notes) (record e { sides = record e.sides { pull = f.local } }) (z.pulls m w e can n h)
-  words place e Acknowledge w can n h = hears_keep (release_notes e.sides.releasing e.sides.ack.front) (record e { sides = record e.sides { local_get = e.sides.ack.front; releasing = false }; shake = record e.shake { owes_message = true } }) (z.acked e n h)
+  words place e (Ring m) w can n h = let f = ring_effect e.sides.send m w in hears_keep P z.settling (map BySend f.notes) (record e { sides = record e.sides { send = f.local } }) (z.rings e f.local h)
+  words place e (Pull m) w can n h = let f = pull_effect (sender_counters e.sides) e.sides.pull m w in hears_keep P z.settling (map ByPull f.notes) (record e { sides = record e.sides { pull = f.local } }) (z.pulls m w e can n h)
+  words place e Acknowledge w can n h = hears_keep P z.settling (release_notes e.sides.releasing e.sides.ack.front) (record e { sides = record e.sides { local_get = e.sides.ack.front; releasing = false }; shake = record e.shake { owes_message = true } }) (z.acked e n h)
   words place e (SetFlag MsgRequest) w can n h = z.told e n h
   words place e (SetFlag CloseRequest) w can n h = controls CloseRequest e can n h
   words place e (SetFlag CloseReply) w can n h = controls CloseReply e can n h
@@ -176,7 +87,7 @@ module _ (N : End → LinkRule → Type 0) (P : End → Type 0) (z : EndKeeps N 
   words place e ZeroGet w can n h = z.zeros e n h
   words place e ZeroPut w can n h = z.zeros_put e n h
   words place e (StoreArgument x) w can n h = z.stored x e n h
-  words place e (ReadArgument x) w can n h = all_settles (with_argument x place w e) (z.read x place w e n h)
+  words place e (ReadArgument x) w can n h = all_settles P z.settling (with_argument x place w e) (z.read x place w e n h)
 
   fails : (mark : Option CopyMark) (e : End) (m : LinkRule) → N e m → P e → P (end_failed mark e)
   fails None e m n h = h

@@ -1,6 +1,6 @@
 -- What always holds of how a partition stands to a partner, whatever the memory answers.
-use Rattle.std.proofs.Common.{◌≡◌, ℕ, Bool, true, false, ◌&&◌, ◌||◌, refl, ap, sym, ◌∙◌, subst, inl, inr, ◌⊎◌, Option, Some, None}
-use Rattle.std.specs.Prelude.{IsSome, is_some, not, nat_eq, nat_lt, if◌then◌else◌, List, [], ◌∷◌}
+use Rattle.std.proofs.Common.{◌≡◌, ℕ, Bool, true, false, ◌&&◌, ◌||◌, refl, sym, ◌∙◌, subst, inl, inr, ◌⊎◌, Option, Some, None}
+use Rattle.std.specs.Prelude.{is_some, not, nat_eq, if◌then◌else◌, List, [], ◌∷◌}
 use Rattle.std.proofs.lemmas.Bool.{and_parts}
 use Rattle.xp_base.specs.declared.reason.Reason.{Reason}
 use Rattle.xp_base.specs.declared.reason.Reason.TheVariants.{Unloading}
@@ -10,14 +10,14 @@ use Rattle.xp_script.specs.declared.part.Link.{Link as ScenarioLink}
 use Rattle.xp_script.specs.declared.part.ScenarioPart.{ScenarioPart}
 use Rattle.xp_protocol.specs.declared.contact.Contact.{Contact}
 use Rattle.xp_protocol.specs.declared.contact.PartnerState.{PartnerState}
-use Rattle.xp_protocol.specs.declared.contact.PartnerState.TheVariants.{Inactive, Requested, Activating, Active, Deactivating}
+use Rattle.xp_protocol.specs.declared.contact.PartnerState.TheVariants.{Inactive, Requested, Activating}
 use Rattle.xp_protocol.specs.declared.rule.AreaWord.{AreaWord}
 use Rattle.xp_protocol.specs.declared.rule.AreaWord.TheVariants.{SessionWord, EchoWord, PlaceWord, ArgsWord, FlagWord, CounterWord}
 use Rattle.xp_protocol.specs.declared.rule.PeerRule.{PeerRule}
 use Rattle.xp_protocol.specs.declared.rule.PeerRule.TheVariants.{AskActivation, TakeFlags, CloseArea, ZeroMagic, ClearOldBit, Prepare, OpenArea, SetEngagementBit, ReadRecord, StoreEcho, StoreSecond, ClearEngagementBit, LookAtPage, ClearDeactivationBit, TellPartner}
-use Rattle.xp_protocol.specs.Effects.{Effect, Note, first_reason}
-use Rattle.xp_protocol.specs.State.{State, Peer, PeerGoing, Engage, Reading, Area, Old, Off, Ready, Leaving, cold_peer, base_engage, booted_engage, peer_of, opened_state}
-use Rattle.xp_protocol.specs.Peering.{Here, peer_can, peer_effect, left_engage, area_left_for, freed_engage, prepared, is_prepared, is_ready, is_left, is_bad_flags, is_magic, is_wrong, has_shown, record_read, try_contact, contact_made, contact_of, same_peer, with_reason, copy_ended, area_off}
+use Rattle.xp_protocol.specs.Effects.{first_reason}
+use Rattle.xp_protocol.specs.State.{Peer, PeerGoing, Engage, Reading, Area, Old, Off, Ready, Leaving, cold_peer, base_engage, peer_of, opened_state}
+use Rattle.xp_protocol.specs.Peering.{Here, peer_can, peer_effect, area_left_for, prepared, is_ready, is_left, is_bad_flags, is_magic, is_wrong, has_shown, record_read, try_contact, contact_made, same_peer, with_reason, copy_ended, area_off}
 use Rattle.xp_protocol.specs.Acts.{unwanted, state_unwanted}
 use Rattle.xp_protocol.specs.Runs.{start}
 use Rattle.xp_protocol.proofs.Frames.{cond_peer}

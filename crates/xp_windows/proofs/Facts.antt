@@ -1,13 +1,12 @@
 -- What always holds, along the turns of a partition that follows its plan: and what the duties of a
 -- partner that isn't in contact have in common.
-use Rattle.std.proofs.Common.{◌≡◌, ℕ, zero, suc, ◌+◌, ◌<◌, ◌≤◌, Bool, true, false, ◌&&◌, ◌||◌, List, [], ◌∷◌, length, refl, ap, sym, ◌∙◌, subst, arith, inl, inr, ◌⊎◌, get_or-set_same, Option, Some, None}
-use Rattle.std.specs.Prelude.{IsSome, is_some, not, nat_lt, nat_eq, if◌then◌else◌}
+use Rattle.std.proofs.Common.{◌≡◌, ℕ, suc, ◌+◌, ◌<◌, ◌≤◌, Bool, true, false, ◌&&◌, ◌||◌, List, [], ◌∷◌, length, refl, ap, sym, ◌∙◌, subst, arith, inl, inr, ◌⊎◌, get_or-set_same, Option, Some, None}
+use Rattle.std.specs.Prelude.{is_some, not, nat_lt, nat_eq, if◌then◌else◌}
 use Rattle.std.proofs.lemmas.Bool.{cases_lt}
 use Rattle.std.proofs.lemmas.Bool.Decides.{nat_tests}
 use Rattle.std.proofs.lemmas.List.{get_or_past}
 use Rattle.xp_base.specs.declared.reason.Reason.{Reason}
 use Rattle.xp_base.specs.declared.step.Answer.{Answer}
-use Rattle.xp_base.specs.declared.step.Answer.TheVariants.{Word, Failed}
 use Rattle.xp_base.specs.declared.step.CopyKind.{CopyKind}
 use Rattle.xp_base.specs.declared.step.CopyKind.TheVariants.{Record as RecordCopy}
 use Rattle.xp_base.specs.declared.step.CopyMark.{CopyMark}
@@ -27,23 +26,22 @@ use Rattle.xp_protocol.specs.declared.rule.AreaWord.{AreaWord}
 use Rattle.xp_protocol.specs.declared.rule.AreaWord.TheVariants.{SessionWord, EchoWord, PlaceWord, ArgsWord, FlagWord, CounterWord}
 use Rattle.xp_protocol.specs.declared.rule.Rule.{Rule}
 use Rattle.xp_protocol.specs.declared.rule.Rule.TheVariants.{Peer as ForPeer}
-use Rattle.xp_protocol.specs.Effects.{Effect, Note}
 use Rattle.xp_protocol.specs.Parts.{fails_at}
-use Rattle.xp_protocol.specs.State.{State, base_peer, Life, Up, Old, Off, Ready, Leaving, Area, Peer, PeerGoing, Engage, Reading, End, cold_peer, link_at, peer_at, peer_of, end_of}
+use Rattle.xp_protocol.specs.State.{State, base_peer, Life, Old, Off, Ready, Leaving, Peer, PeerGoing, Engage, Reading, End, cold_peer, link_at, peer_of, end_of}
 use Rattle.xp_protocol.specs.Pulling.{Pulling, is_copying}
 use Rattle.xp_protocol.specs.Peering.{Here, place_read, peer_can, peer_effect, prepared, record_read, try_contact, contact_made, same_peer, area_left_for, is_magic, is_wrong, has_shown, is_bad_flags, any_copied, copies_go_on, copy_ended, with_reason}
-use Rattle.xp_protocol.specs.Rules.{here_of, mark_of, peer_answered, after_answer}
+use Rattle.xp_protocol.specs.Rules.{here_of, mark_of, peer_answered}
 use Rattle.xp_protocol.specs.Acts.{after_acts}
 use Rattle.xp_protocol.specs.Decode.{rule_of}
-use Rattle.xp_protocol.specs.Runs.{May, MayMake, MayStep, RunsFrom, after_ruled, after_step, after_turn, acted, turn_counted, is_failed, start}
+use Rattle.xp_protocol.specs.Runs.{May, MayMake, after_ruled, after_step, after_turn, acted, turn_counted, is_failed, start}
 use Rattle.xp_protocol.proofs.Frames.{cond_peer}
 use Rattle.xp_plan.specs.declared.errand.Agenda.TheVariants as agendas
 use Rattle.xp_plan.specs.declared.errand.Errand.{Errand}
 use Rattle.xp_plan.specs.declared.errand.Errand.TheVariants as errands
 use Rattle.xp_plan.specs.PeerSteps.{is_open_to}
 use Rattle.xp_plan.specs.Plan.{is_joined, errands_of, agenda_by, agenda_at, plan_of}
-use Rattle.xp_windows.specs.Windows.{middle, IsUp, Throughout}
-use Rattle.xp_windows.specs.Visited.{rule_by, rule_made, visit_after}
+use Rattle.xp_windows.specs.Windows.{middle, IsUp}
+use Rattle.xp_windows.specs.Visited.{rule_by, rule_made}
 use Rattle.xp_windows.proofs.Places.{Run, run_next, first_holds}
 use Rattle.xp_windows.proofs.Copies.{whole}
 use Rattle.xp_windows.proofs.Keeps.{acts_keep}
@@ -53,7 +51,7 @@ use Rattle.xp_windows.proofs.Engaged.{Stands, Reads, stands_acts, stands_steps, 
 use Rattle.xp_windows.proofs.Rests.{Quiet, Rests, Cut, rests_next, rests_first, rests_acts, cut_next, cut_first, acts_cut}
 use Rattle.xp_windows.proofs.Sober.{Sobers, sober_acts, sober_next, sober_first}
 use Rattle.xp_windows.proofs.Stored.{Stored, stored_acts, stored_next, stored_first}
-use Rattle.xp_windows.proofs.Looks.{Tied, Tie, mid_tied, tied_within, asks_on}
+use Rattle.xp_windows.proofs.Looks.{Tied, mid_tied, tied_within, asks_on}
 
 -- a copy of a partner's record that goes on has words left
 abbrev pub Placed : Peer → Type 0

@@ -35,11 +35,11 @@ use Rattle.xp_protocol.specs.declared.rule.Rule.TheVariants.{Link}
 use Rattle.xp_script.specs.declared.part.ScenarioPart.{ScenarioPart}
 use Rattle.xp_protocol.specs.declared.rule.PullRule.{PullRule}
 use Rattle.xp_protocol.specs.Effects.{Effect, SendNote, PullNote, Note, BySend, ByPull, Accepted, Sent, Heard, TakeRefused, Released, Drained, just, and_then}
-use Rattle.xp_protocol.specs.Sending.{Sending, new_sending, with_remote_get, ring_effect}
+use Rattle.xp_protocol.specs.Sending.{Sending, with_remote_get, ring_effect}
 use Rattle.xp_protocol.specs.Pulling.{Pulling, pull_effect, pull_failed, message_taken, take_refusal}
 use Rattle.xp_protocol.specs.Releasing.{Releasing, message_released, message_held, release_refusal}
 use Rattle.xp_protocol.specs.State.{State, size_in, end_of, End, Sides, is_connected, link_of}
-use Rattle.xp_protocol.specs.Linking.{owed, link_can, hear, hears, asked_more, by_send, by_pull, sender_counters, acknowledged, link_effect, close_now, down_notes, down_end, channel_closed, epoch_over, changed, unequal, is_ended, are_unequal, kind_left, kind_got, is_request, request_handled, reply_handled, is_code, code_handled, refused, kind_refused, well_handled, handled, has_argument, handled_next, settle, settled, with_taken, flags_got, end_sent, control_sent, flag_sent, with_argument, argument_stored, entries_in, limit_in}
+use Rattle.xp_protocol.specs.Linking.{owed, link_can, hear, hears, asked_more, by_send, by_pull, sender_counters, acknowledged, link_effect, close_now, down_notes, down_end, channel_closed, epoch_over, changed, unequal, is_ended, are_unequal, kind_left, kind_got, is_request, request_handled, reply_handled, is_code, code_handled, refused, kind_refused, well_handled, handled, has_argument, handled_next, settle, settled, with_taken, flags_got, end_sent, control_sent, flag_sent, with_argument, argument_stored, limit_in}
 use Rattle.xp_protocol.specs.Acts.{say, refused_send, send_begun, take_begun, release_held, release_begun, drain_refusal, drain_begun, register_begun, unregister_begun, end_begun, taken_by, take_found, take_answered, answered_by, end_answered, without_first, end_noticed}
 use Rattle.xp_protocol.specs.Rules.{end_failed, link_answered, mark_of, place_for}
 

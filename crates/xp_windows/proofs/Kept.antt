@@ -1,5 +1,5 @@
 -- What is due at a connected end, and stays due until the errand that asks for its step has come.
-use Rattle.std.proofs.Common.{◌≡◌, ℕ, ◌+◌, ◌*◌, ◌<◌, ◌≤◌, Bool, List, [], ◌∷◌, length, refl, ap, ◌∙◌, arith, inl, inr, ◌⊎◌, Option, Some, None}
+use Rattle.std.proofs.Common.{◌≡◌, ℕ, ◌+◌, ◌*◌, ◌<◌, ◌≤◌, Bool, List, ◌∷◌, length, refl, ap, ◌∙◌, arith, inl, inr, ◌⊎◌, Option, Some}
 use Rattle.xp_base.specs.History.{Turn}
 use Rattle.xp_script.specs.declared.part.ScenarioPart.{ScenarioPart}
 use Rattle.xp_rounds.specs.declared.rounds.TheConstants.{VISIT_TURNS}

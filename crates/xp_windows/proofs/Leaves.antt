@@ -1,7 +1,7 @@
 -- Own memory that stands open to a partner which is to be deactivated is closed in the next visit, and
 -- where the own bit stands at it, it is told in the next one.
-use Rattle.std.proofs.Common.{◌≡◌, ℕ, ◌+◌, ◌*◌, ◌<◌, ◌≤◌, Bool, true, false, ◌&&◌, cond, List, [], ◌∷◌, length, refl, ap, sym, ◌∙◌, subst, arith, inl, inr, ◌⊎◌, Option, Some, None}
-use Rattle.std.specs.Prelude.{IsSome, is_some, not, nat_eq, nat_lt, if◌then◌else◌}
+use Rattle.std.proofs.Common.{◌≡◌, ℕ, ◌+◌, ◌*◌, ◌<◌, ◌≤◌, Bool, true, false, ◌&&◌, List, [], ◌∷◌, length, refl, ap, sym, ◌∙◌, subst, arith, inl, inr, ◌⊎◌, Option, Some, None}
+use Rattle.std.specs.Prelude.{IsSome, is_some, not, if◌then◌else◌}
 use Rattle.std.proofs.lemmas.List.{get_or_past}
 use Rattle.xp_base.specs.declared.reason.Reason.{Reason}
 use Rattle.xp_base.specs.declared.reason.Reason.TheVariants.{OtherGoingDown, Unloading}
@@ -23,12 +23,12 @@ use Rattle.xp_protocol.specs.declared.rule.PeerRule.TheVariants.{AskActivation, 
 use Rattle.xp_protocol.specs.declared.rule.OwnRule.TheVariants.{ReadEngaged, TakeDeactivation, ReadStamp, ZeroMask, ZeroOffline, WriteStamp, StoreMask, TakeActivation}
 use Rattle.xp_protocol.specs.declared.rule.Rule.{Rule}
 use Rattle.xp_protocol.specs.declared.rule.Rule.TheVariants.{Link, Peer as ForPeer, Own}
-use Rattle.xp_protocol.specs.Effects.{Effect, Note, first_reason}
+use Rattle.xp_protocol.specs.Effects.{first_reason}
 use Rattle.xp_protocol.specs.State.{State, end_of, Life, Up, Peer, PeerGoing, Engage, Area, Old, Off, Ready, Leaving, cold_peer, peer_at, peer_of, set_link}
-use Rattle.xp_protocol.specs.Peering.{copies_go_on, Here, peer_can, peer_effect, peer_read, deactivation_heard, area_off, same_peer, is_left, is_ready, is_flagged, with_reason, end_reason, copy_ended, peer_failed, page_read}
-use Rattle.xp_protocol.specs.Rules.{Can, numbered, link_answered, place_for, peer_life, here_of, mark_of, peer_answered, peer_numbered, after_answer}
-use Rattle.xp_protocol.specs.Acts.{Aim, aimed, with_aim, command_begun, unwanted, peers_wanted, after_act, after_acts}
-use Rattle.xp_protocol.specs.Runs.{May, MayMake, MayStep, after_ruled, after_step, after_turn, acted, turn_counted, moment, moment_by, restarted, restart_comes, stop_comes, is_over}
+use Rattle.xp_protocol.specs.Peering.{copies_go_on, Here, peer_can, peer_effect, peer_read, deactivation_heard, area_off, same_peer, is_left, is_ready, is_flagged, with_reason, end_reason, copy_ended}
+use Rattle.xp_protocol.specs.Rules.{Can, numbered, link_answered, place_for, peer_life, here_of, mark_of, peer_answered, after_answer}
+use Rattle.xp_protocol.specs.Acts.{Aim, aimed, with_aim, command_begun, unwanted, after_act, after_acts}
+use Rattle.xp_protocol.specs.Runs.{May, MayMake, MayStep, after_ruled, after_step, after_turn, acted, turn_counted, moment_by, restart_comes, stop_comes, is_over}
 use Rattle.xp_protocol.proofs.Slots.{at_each, at_peer}
 use Rattle.xp_protocol.proofs.Frames.{wanted_at, cond_peer}
 use Rattle.xp_plan.specs.declared.errand.Agenda.TheVariants as agendas

@@ -27,3 +27,5 @@ pub mod Records
 pub mod Stored
 pub mod Opens
 pub mod Sober
+pub mod Settles
+pub mod Controls

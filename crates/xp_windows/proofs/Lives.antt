@@ -1,8 +1,7 @@
 -- What acts and steps leave of a partition as a whole: acts change its script and its partners alone,
 -- and no step begins a boot.
-use Rattle.std.proofs.Common.{◌≡◌, ℕ, ◌+◌, ◌<◌, ◌&&◌, Bool, true, false, cond, List, [], ◌∷◌, refl, ap, sym, ◌∙◌, subst, arith, inl, inr, ◌⊎◌, Option, Some, None}
-use Rattle.std.specs.Prelude.{not, if◌then◌else◌, nat_lt, nat_eq}
-use Rattle.std.proofs.lemmas.Bool.Decides.{nat_tests}
+use Rattle.std.proofs.Common.{◌≡◌, ℕ, ◌+◌, ◌&&◌, Bool, true, false, List, [], ◌∷◌, refl, sym, ◌∙◌, arith, Option, Some, None}
+use Rattle.std.specs.Prelude.{not, if◌then◌else◌, nat_lt}
 use Rattle.xp_base.specs.declared.step.Answer.{Answer}
 use Rattle.xp_base.specs.declared.step.Answer.TheVariants.{Word, Failed}
 use Rattle.xp_base.specs.History.{Act, Marked, Turn}
@@ -11,11 +10,11 @@ use Rattle.xp_protocol.specs.declared.rule.OwnRule.{OwnRule}
 use Rattle.xp_protocol.specs.declared.rule.OwnRule.TheVariants.{ReadEngaged, TakeDeactivation, ReadStamp, ZeroMask, ZeroOffline, WriteStamp, StoreMask, TakeActivation}
 use Rattle.xp_protocol.specs.declared.rule.Rule.{Rule}
 use Rattle.xp_protocol.specs.declared.rule.Rule.TheVariants.{Link, Peer as ForPeer, Own}
-use Rattle.xp_protocol.specs.State.{State, Script, Peer, Life, Booting, Up, Halted}
-use Rattle.xp_protocol.specs.Rules.{own_lives, life_after, after_answer}
+use Rattle.xp_protocol.specs.State.{State, Script, Peer, Life, Booting, Halted}
+use Rattle.xp_protocol.specs.Rules.{own_lives, after_answer}
 use Rattle.xp_protocol.specs.Acts.{Aim, aimed, with_aim, after_act, after_acts}
 use Rattle.xp_protocol.specs.Decode.{rule_of}
-use Rattle.xp_protocol.specs.Runs.{after_ruled, after_step, after_turn, acted, turn_counted, moment, moment_by, restarted, restart_comes, stop_comes, is_over}
+use Rattle.xp_protocol.specs.Runs.{after_ruled, after_step, after_turn, acted, turn_counted, moment_by, restart_comes, stop_comes, is_over}
 
 -- what acts leave
 module _ {B : Type 0} (f : State → B) (same : (st : State) (script : Script) (peers : List Peer) → f (record st { script = script; peers = peers }) ≡ f st) where

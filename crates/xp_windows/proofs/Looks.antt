@@ -1,7 +1,7 @@
 -- A look at a partner is made in one go: it is begun by the first step of its errand, which has a turn
 -- for each of its loads. So none goes on when the errand comes, and one is begun and over in its visit.
-use Rattle.std.proofs.Common.{◌≡◌, ℕ, zero, suc, ◌+◌, ◌-◌, ◌*◌, ◌<◌, ◌≤◌, Bool, true, false, ◌&&◌, ◌||◌, cond, List, [], ◌∷◌, ◌++◌, length, refl, ap, sym, ◌∙◌, subst, arith, inl, inr, ◌⊎◌, get_or-set_same, Option, Some, None}
-use Rattle.std.specs.Prelude.{IsSome, is_some, not, nat_lt, nat_eq, if◌then◌else◌, slice_set}
+use Rattle.std.proofs.Common.{◌≡◌, ℕ, ◌+◌, ◌-◌, ◌*◌, ◌<◌, ◌≤◌, Bool, true, false, ◌&&◌, ◌||◌, List, [], ◌∷◌, ◌++◌, length, refl, ap, sym, ◌∙◌, subst, arith, inl, inr, ◌⊎◌, get_or-set_same, Option, Some, None}
+use Rattle.std.specs.Prelude.{is_some, not, nat_lt, nat_eq, if◌then◌else◌, slice_set}
 use Rattle.std.proofs.lemmas.Bool.Decides.{nat_tests}
 use Rattle.std.proofs.lemmas.Bool.{cases_eq, cases_lt}
 use Rattle.std.proofs.lemmas.List.{length-append, length-set, get_or_past}
@@ -15,7 +15,6 @@ use Rattle.xp_script.specs.declared.part.ScenarioPart.{ScenarioPart}
 use Rattle.xp_rounds.specs.declared.rounds.Place.{Place}
 use Rattle.xp_rounds.specs.declared.rounds.Place.TheVariants.{Partner as PartnerPlace}
 use Rattle.xp_rounds.specs.declared.rounds.TheConstants.{VISIT_TURNS}
-use Rattle.xp_rounds.specs.Ring.{place_at}
 use Rattle.xp_rounds.specs.Visit.{Visit, planned}
 use Rattle.xp_rounds.proofs.Visits.{Fits, Busy, Aside, busy_turn}
 use Rattle.xp_rounds.proofs.Sources.{Paced, planned_paced}
@@ -27,29 +26,27 @@ use Rattle.xp_protocol.specs.declared.rule.PeerRule.TheVariants.{AskActivation, 
 use Rattle.xp_protocol.specs.declared.rule.Rule.{Rule}
 use Rattle.xp_protocol.specs.declared.rule.Rule.TheVariants.{Link, Peer as ForPeer, Own}
 use Rattle.xp_protocol.specs.Effects.{Effect, Note}
-use Rattle.xp_protocol.specs.State.{State, Life, Up, Peer, PeerGoing, Engage, Reading, Area, Old, cold_peer, peer_at, peer_of, end_of}
-use Rattle.xp_protocol.specs.Peering.{both_new_by, Here, booted_peer, peer_can, peer_effect, page_read, judged, look_reason, with_reason, copy_ended, same_peer, flags_taken, is_bad_flags, area_left_for, try_contact, contact_made, record_read, last_read, place_read, has_shown, is_wrong, is_magic}
+use Rattle.xp_protocol.specs.State.{State, Life, Up, Peer, PeerGoing, Reading, Old, cold_peer, peer_of}
+use Rattle.xp_protocol.specs.Peering.{both_new_by, Here, booted_peer, peer_effect, page_read, judged, look_reason, with_reason, copy_ended, same_peer, is_bad_flags, area_left_for, try_contact, contact_made, record_read, has_shown, is_wrong, is_magic}
 use Rattle.xp_protocol.specs.Rules.{Can, here_of, mark_of, peer_answered, peer_numbered, after_answer}
-use Rattle.xp_protocol.specs.Decode.{rule_of}
 use Rattle.xp_protocol.specs.Acts.{after_acts}
-use Rattle.xp_protocol.specs.Runs.{May, MayMake, MayStep, RunsFrom, after_ruled, after_step, after_turn, acted, turn_counted, moment, moment_by, restart_comes, stop_comes, is_over, start}
+use Rattle.xp_protocol.specs.Runs.{May, MayMake, RunsFrom, after_ruled, after_step, after_turn, acted, turn_counted, moment_by, restart_comes, stop_comes, is_over, start}
 use Rattle.xp_protocol.proofs.Slots.{at_each}
 use Rattle.xp_protocol.proofs.Frames.{cond_peer}
-use Rattle.xp_plan.specs.declared.errand.Agenda.{Agenda}
 use Rattle.xp_plan.specs.declared.errand.Agenda.TheVariants as agendas
 use Rattle.xp_plan.specs.declared.errand.Errand.{Errand}
 use Rattle.xp_plan.specs.declared.errand.Errand.TheVariants as errands
 use Rattle.xp_plan.specs.EndSteps.{step_if}
-use Rattle.xp_plan.specs.PeerSteps.{for_peer, look_at}
+use Rattle.xp_plan.specs.PeerSteps.{for_peer}
 use Rattle.xp_plan.specs.Plan.{asked, is_joined, errands_of, agenda_by, agenda_at, plan_of, first_visit}
 use Rattle.xp_windows.specs.Windows.{middle, Changes, BeginsLook, EndsLook, IsUp, SomeTurn, SomeFrom, Throughout}
-use Rattle.xp_windows.specs.Visited.{rule_by, rule_made, visit_after, FollowsFrom}
+use Rattle.xp_windows.specs.Visited.{rule_by, rule_made, visit_after}
 use Rattle.xp_windows.proofs.Places.{Turns, first_holds, asks}
 use Rattle.xp_windows.proofs.Copies.{whole}
 use Rattle.xp_windows.proofs.Polls.{one_place}
 use Rattle.xp_windows.proofs.Lives.{acts_life, acted_boots, on_turn}
 use Rattle.xp_windows.proofs.PeerFrames.{ActsLeave, StepsLeave, acts_leave, rule_leaves, start_has}
-use Rattle.xp_windows.proofs.Planned.{Planned, planned_by}
+use Rattle.xp_windows.proofs.Planned.{planned_by}
 
 -- the words of a look that goes on: acts leave them, and so does each step but its own
 abbrev Pages : List ℕ → Peer → Type 0

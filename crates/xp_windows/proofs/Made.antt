@@ -1,5 +1,5 @@
 -- What the end's own step makes of it, where its partner stays met.
-use Rattle.std.proofs.Common.{◌≡◌, ℕ, Bool, true, false, ◌&&◌, List, [], ◌∷◌, get_or-set_same, refl, ap, sym, ◌∙◌, subst, Option, Some, None}
+use Rattle.std.proofs.Common.{◌≡◌, ◌<◌, length, ℕ, Bool, true, false, ◌&&◌, List, [], ◌∷◌, get_or-set_same, refl, ap, sym, ◌∙◌, subst, Option, Some, None}
 use Rattle.std.specs.Prelude.{not, if◌then◌else◌}
 use Rattle.xp_base.specs.declared.reason.Reason.{Reason}
 use Rattle.xp_base.specs.declared.reason.Reason.TheVariants.{Unloading, BadFlags}
@@ -12,7 +12,7 @@ use Rattle.xp_protocol.specs.declared.rule.Rule.{Rule}
 use Rattle.xp_protocol.specs.declared.rule.Rule.TheVariants.{Link}
 use Rattle.xp_protocol.specs.Effects.{Effect, Note, first_reason}
 use Rattle.xp_protocol.specs.Parts.{fails_at}
-use Rattle.xp_protocol.specs.State.{State, End, Peer, Old, cold_peer, idle_end, link_at, peer_at, end_of, peer_of, is_connected, set_link}
+use Rattle.xp_protocol.specs.State.{State, End, Peer, Old, cold_peer, idle_end, link_at, peer_at, end_of, peer_of, set_link}
 use Rattle.xp_protocol.specs.Peering.{with_reason, end_reason, is_ready, booted_peer}
 use Rattle.xp_protocol.specs.Rules.{mark_of, numbered, link_answered, place_for, after_answer}
 use Rattle.xp_protocol.specs.Acts.{Aim, aimed, with_aim, command_begun, after_act, after_acts}
@@ -22,7 +22,7 @@ use Rattle.xp_protocol.proofs.Slots.{at_each, at_peer}
 use Rattle.xp_protocol.proofs.Frames.{wanted_at}
 use Rattle.xp_windows.specs.Windows.{middle, IsMet}
 use Rattle.xp_windows.specs.Visited.{rule_by, rule_made}
-use Rattle.xp_windows.proofs.Keeps.{ActsKeep, acts_keep, moment_keeps, no_contact, within, among}
+use Rattle.xp_windows.proofs.Keeps.{ActsKeep, acts_keep, moment_keeps, no_contact, within}
 
 none_first : (a b : Option Reason) → first_reason a b ≡ None → (a ≡ None) × (b ≡ None)
 none_first None b h = (refl, h)
@@ -63,12 +63,12 @@ module _ (s : ScenarioPart) (q c : ℕ) where
   abbrev pub Does : State → LinkRule → Answer → Effect End (List Note)
   Does st m a = link_answered (mark_of s st (Link q c m)) (place_for s c) (end_of st q c) m a
 
-  exact : (st : State) (m : LinkRule) (a : Answer) → IsMet q st → is_connected (end_of st q c) ≡ true → end_of (after_answer s st (Link q c m) a) q c ≡ (Does st m a).local
-  exact st m a met on =
+  exact : (st : State) (m : LinkRule) (a : Answer) → IsMet q st → c < length (peer_of st q).links → end_of (after_answer s st (Link q c m) a) q c ≡ (Does st m a).local
+  exact st m a met low =
       let mark = mark_of s st (Link q c m) in
       let g = Does st m a in
       ap (λ (p : Peer). link_at p.links c) (get_or-set_same st.peers q (with_reason (end_reason (peer_of st q).flags_seen g.reason) (set_link (numbered mark c (peer_of st q)) c g.local)) (cold_peer Old) (within q st met))
-      ∙ get_or-set_same (peer_of st q).links c g.local idle_end (among st q c on)
+      ∙ get_or-set_same (peer_of st q).links c g.local idle_end low
 
   unblamed : (st : State) (m : LinkRule) (a : Answer) → IsMet q st → Free (after_answer s st (Link q c m) a) → (Does st m a).reason ≡ None
   unblamed st m a met h =
@@ -79,9 +79,9 @@ module _ (s : ScenarioPart) (q c : ℕ) where
       end_none (peer_of st q).flags_seen g.reason (ap (λ (b : Bool). if b then end_reason (peer_of st q).flags_seen g.reason else None) (sym (ap (λ (x : _). is_ready x) met.ready)) ∙ z)
 
   -- the rule of the end's own step is known: what it makes of the end stands after the turn
-  pub step_makes : (P : End → Type 0) → ActsKeep P → (st : State) (t : Turn) (m : LinkRule) → May s st t → IsMet q (middle s st t) → is_connected (end_of (middle s st t) q c) ≡ true → IsMet q (after_turn s st t) → rule_made s (middle s st t) t ≡ Some (Link q c m)
+  pub step_makes : (P : End → Type 0) → ActsKeep P → (st : State) (t : Turn) (m : LinkRule) → May s st t → IsMet q (middle s st t) → c < length (peer_of (middle s st t) q).links → IsMet q (after_turn s st t) → rule_made s (middle s st t) t ≡ Some (Link q c m)
       → ((a : Answer) → is_failed a ≡ fails_at s (mark_of s (middle s st t) (Link q c m)) → (Does (middle s st t) m a).reason ≡ None → P (Does (middle s st t) m a).local) → P (end_of (after_turn s st t) q c)
-  step_makes P acts st t m may met on later e makes = by t.made refl may.made e where
+  step_makes P acts st t m may met low later e makes = by t.made refl may.made e where
     ends : P (end_of (after_step s (middle s st t) t.made) q c) → P (end_of (after_turn s st t) q c)
     ends x = moment_keeps P s q c st.clock.puts (turn_counted (acted s st t)) later (acts_keep P s q c acts (after_step s (middle s st t) t.made) t.after x)
 
@@ -92,7 +92,7 @@ module _ (s : ScenarioPart) (q c : ℕ) where
         let free = acts_free (after_step s (middle s st t) t.made) t.after (moment_free st.clock.puts (turn_counted (acted s st t)) later) in
         let free_after : Free (after_answer s (middle s st t) (Link q c m) x.step.answer) = subst (λ (o : Option Rule). Free (after_ruled s (middle s st t) o x.step.answer)) ruled (subst (λ (z : Option Marked). Free (after_step s (middle s st t) z)) i free) in
         let h = makes x.step.answer (y.fails ∙ ap (λ (o : Option CopyMark). fails_at s o) marked) (unblamed (middle s st t) m x.step.answer met free_after) in
-        let g = subst P (sym (exact (middle s st t) m x.step.answer met on)) h in
+        let g = subst P (sym (exact (middle s st t) m x.step.answer met low)) h in
         let d = subst (λ (o : Option Rule). P (end_of (after_ruled s (middle s st t) o x.step.answer) q c)) (sym ruled) g in
         ends (subst (λ (z : Option Marked). P (end_of (after_step s (middle s st t) z) q c)) (sym i) d)
 

@@ -22,7 +22,7 @@ use Rattle.xp_protocol.specs.Peering.{Here, peer_can, peer_effect, peer_read, de
 use Rattle.xp_protocol.specs.Rules.{Can, numbered, link_answered, place_for, here_of, mark_of, peer_answered, after_answer}
 use Rattle.xp_protocol.specs.Acts.{Aim, aimed, with_aim, command_begun, unwanted, wanted_again, after_act, after_acts}
 use Rattle.xp_protocol.specs.Decode.{rule_of}
-use Rattle.xp_protocol.specs.Runs.{May, MayMake, MayStep, after_ruled, after_step, after_turn, moment, moment_by, restart_comes, stop_comes, is_over, start}
+use Rattle.xp_protocol.specs.Runs.{May, MayMake, after_ruled, after_step, after_turn, moment, moment_by, restart_comes, stop_comes, is_over, start}
 use Rattle.xp_protocol.proofs.Slots.{at_each, at_peer}
 use Rattle.xp_protocol.proofs.Frames.{wanted_at}
 use Rattle.xp_windows.specs.Windows.{middle, Steps, IsFor}

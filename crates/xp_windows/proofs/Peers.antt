@@ -1,5 +1,5 @@
 -- A partition has as many partners at every moment, each with its channels.
-use Rattle.std.proofs.Common.{◌≡◌, ℕ, Bool, true, false, ◌&&◌, List, [], ◌∷◌, refl, Option, Some, None}
+use Rattle.std.proofs.Common.{ℕ, Bool, true, false, ◌&&◌, List, [], ◌∷◌, Option, Some, None}
 use Rattle.std.specs.Prelude.{not}
 use Rattle.xp_base.specs.History.{Act, Marked, Turn}
 use Rattle.xp_script.specs.declared.part.ScenarioPart.{ScenarioPart}

@@ -1,9 +1,8 @@
 -- What is known of a planned step by the errand that asked for it: a look is asked for at its own
 -- errand, a copy of a partner's record while it may be read, an echo is stored where the own bit isn't
 -- to go, and the words of a channel are copied while it is connected.
-use Rattle.std.proofs.Common.{◌≡◌, ℕ, ◌+◌, ◌<◌, Bool, true, false, ◌&&◌, ◌||◌, List, [], ◌∷◌, length, refl, ap, sym, ◌∙◌, subst, Option, Some, None}
+use Rattle.std.proofs.Common.{◌≡◌, ℕ, ◌+◌, Bool, true, false, ◌&&◌, ◌||◌, List, [], ◌∷◌, length, refl, subst, Option, Some, None}
 use Rattle.std.specs.Prelude.{is_some, not, nat_lt, nat_eq, if◌then◌else◌}
-use Rattle.std.proofs.lemmas.Bool.{and_parts}
 use Rattle.xp_base.specs.declared.layout.TheConstants.{RECORD_WORDS}
 use Rattle.xp_base.specs.declared.link.Kind.{Kind}
 use Rattle.xp_base.specs.declared.link.Kind.TheVariants.{CloseRequest, CloseReply, OpenRequest, OpenReply, OpenComplete, MsgRequest}
@@ -24,11 +23,10 @@ use Rattle.xp_protocol.specs.declared.rule.RingRule.{RingRule}
 use Rattle.xp_protocol.specs.declared.rule.RingRule.TheVariants.{ReadGet, WriteEntryWord, AcceptMessage}
 use Rattle.xp_protocol.specs.declared.rule.PullRule.TheVariants.{ReadCounters, ReadEntry}
 use Rattle.xp_protocol.specs.declared.rule.LinkRule.{LinkRule}
-use Rattle.xp_protocol.specs.declared.rule.LinkRule.TheVariants.{Ring, Pull, Acknowledge, SetFlag, ZeroGet, ZeroPut, StoreArgument, ReadArgument}
-use Rattle.xp_protocol.specs.declared.rule.PeerRule.{PeerRule}
-use Rattle.xp_protocol.specs.declared.rule.PeerRule.TheVariants.{AskActivation, TakeFlags, CloseArea, ZeroMagic, ClearOldBit, Prepare, OpenArea, SetEngagementBit, ReadRecord, StoreEcho, StoreSecond, ClearEngagementBit, LookAtPage, ClearDeactivationBit, TellPartner}
+use Rattle.xp_protocol.specs.declared.rule.LinkRule.TheVariants.{Ring, Pull, Acknowledge, SetFlag, ZeroGet, ZeroPut, StoreArgument}
+use Rattle.xp_protocol.specs.declared.rule.PeerRule.TheVariants.{TakeFlags, CloseArea, ZeroMagic, ClearOldBit, ReadRecord, StoreEcho, StoreSecond, ClearEngagementBit, LookAtPage, ClearDeactivationBit, TellPartner}
 use Rattle.xp_protocol.specs.declared.rule.OwnRule.{OwnRule}
-use Rattle.xp_protocol.specs.declared.rule.OwnRule.TheVariants.{ReadStamp, ZeroMask, ZeroOffline, WriteStamp}
+use Rattle.xp_protocol.specs.declared.rule.OwnRule.TheVariants.{ReadStamp, WriteStamp}
 use Rattle.xp_protocol.specs.declared.rule.Rule.{Rule}
 use Rattle.xp_protocol.specs.declared.rule.Rule.TheVariants.{Link, Peer as ForPeer, Own}
 use Rattle.xp_protocol.specs.Acts.{current, EndName, named_end}
@@ -38,7 +36,7 @@ use Rattle.xp_protocol.specs.Peering.{is_off, is_prepared, copies_go_on, is_good
 use Rattle.xp_plan.specs.declared.errand.Errand.{Errand}
 use Rattle.xp_plan.specs.declared.errand.Errand.TheVariants as errands
 use Rattle.xp_plan.specs.EndSteps.{step_if, or_else, send_step, once, is_polling, has_entry, owes_store, store_at, message_at, argument_awaited, argument_step, argument_at, control_owed, has_request, control_step, control_by, control_at, control_signal, signal_step, signal_at}
-use Rattle.xp_plan.specs.PeerSteps.{for_peer, open_step, word_missing, prepare_by, prepare_free, is_open_to, engage_by, has_waited, echo_step, is_backing_off, may_read, leave_bit, leave_by, clear_old, boot_peers, boot_own, boot_after_read, boot_at, any_left}
+use Rattle.xp_plan.specs.PeerSteps.{for_peer, open_step, word_missing, prepare_by, prepare_free, is_open_to, engage_by, has_waited, echo_step, is_backing_off, may_read, leave_by, clear_old, boot_peers, boot_own, boot_after_read, any_left}
 use Rattle.xp_plan.specs.Plan.{asked, is_joined, link_rule, link_asked, command_step, command_at, command_asked, script_asked, ask_partner, ask_own, ask_up, ask_booting, ask_by, plan_of}
 use Rattle.xp_plan.proofs.Choices.{some_is}
 use Rattle.xp_windows.proofs.Copies.{whole}

@@ -1,54 +1,47 @@
 -- A copy of a partner's record is begun and over in the visit to it: its errand has turns for the rest
 -- of one that was cut, and for a whole one.
-use Rattle.std.proofs.Common.{◌≡◌, ℕ, zero, suc, ◌+◌, ◌-◌, ◌*◌, ◌<◌, ◌≤◌, Bool, true, false, ◌&&◌, ◌||◌, List, [], ◌∷◌, length, refl, ap, sym, ◌∙◌, subst, arith, inl, inr, ◌⊎◌, Option, Some, None}
-use Rattle.std.specs.Prelude.{IsSome, is_some, not, nat_lt, nat_le, nat_eq, if◌then◌else◌}
-use Rattle.std.proofs.lemmas.Bool.{and_parts}
+use Rattle.std.proofs.Common.{◌≡◌, ℕ, ◌+◌, ◌-◌, ◌*◌, ◌<◌, ◌≤◌, Bool, true, false, ◌&&◌, ◌||◌, List, ◌∷◌, length, refl, ap, sym, ◌∙◌, subst, arith, inl, inr, ◌⊎◌, Option, Some, None}
+use Rattle.std.specs.Prelude.{IsSome, is_some, not, nat_lt, nat_eq, if◌then◌else◌}
 use Rattle.std.proofs.lemmas.Bool.Decides.{nat_tests}
 use Rattle.xp_base.specs.declared.layout.TheConstants.{RECORD_WORDS}
 use Rattle.xp_base.specs.declared.reason.Reason.{Reason}
 use Rattle.xp_base.specs.declared.step.Answer.{Answer}
 use Rattle.xp_base.specs.declared.step.Answer.TheVariants.{Word, Failed}
-use Rattle.xp_base.specs.declared.step.CopyKind.{CopyKind}
-use Rattle.xp_base.specs.History.{Act, Marked, Turn}
+use Rattle.xp_base.specs.History.{Marked, Turn}
 use Rattle.xp_script.specs.declared.part.ScenarioPart.{ScenarioPart}
 use Rattle.xp_rounds.specs.declared.rounds.TheConstants.{VISIT_TURNS}
-use Rattle.xp_rounds.specs.Visit.{Visit, planned}
-use Rattle.xp_rounds.proofs.Visits.{Fits, Aside}
+use Rattle.xp_rounds.specs.Visit.{Visit}
 use Rattle.xp_rounds.proofs.Sources.{Paced}
 use Rattle.xp_rounds.proofs.Duties.{Along, Moved}
 use Rattle.xp_rounds.proofs.Asides.{Duty, done}
 use Rattle.xp_rounds.proofs.Spots.{Spot}
 use Rattle.xp_protocol.specs.declared.contact.Contact.{Contact}
 use Rattle.xp_protocol.specs.declared.contact.PartnerState.{PartnerState}
-use Rattle.xp_protocol.specs.declared.contact.PartnerState.TheVariants.{Inactive, Requested, Activating}
+use Rattle.xp_protocol.specs.declared.contact.PartnerState.TheVariants.{Activating}
 use Rattle.xp_protocol.specs.declared.rule.PeerRule.{PeerRule}
 use Rattle.xp_protocol.specs.declared.rule.PeerRule.TheVariants.{AskActivation, TakeFlags, CloseArea, ZeroMagic, ClearOldBit, Prepare, OpenArea, SetEngagementBit, ReadRecord, StoreEcho, StoreSecond, ClearEngagementBit, LookAtPage, ClearDeactivationBit, TellPartner}
 use Rattle.xp_protocol.specs.declared.rule.Rule.{Rule}
 use Rattle.xp_protocol.specs.declared.rule.Rule.TheVariants.{Peer as ForPeer}
 use Rattle.xp_protocol.specs.Effects.{Effect, Note}
-use Rattle.xp_protocol.specs.State.{State, Up, Old, Off, Ready, Leaving, Area, Peer, PeerGoing, Engage, Reading, cold_peer, peer_at, peer_of, end_of}
-use Rattle.xp_protocol.specs.Peering.{Here, place_read, last_read, read_place, HasWaited, is_ready, is_good, is_left, is_bad_flags, is_magic, is_wrong, has_shown, peer_can, peer_effect, prepared, record_read, try_contact, contact_made, same_peer, area_left_for, copies_go_on, copy_ended, with_reason}
-use Rattle.xp_protocol.specs.Rules.{here_of, mark_of, peer_answered, peer_numbered, after_answer}
-use Rattle.xp_protocol.specs.Acts.{after_acts, unwanted}
-use Rattle.xp_protocol.specs.Decode.{rule_of}
-use Rattle.xp_protocol.specs.Runs.{May, MayMake, MayStep, RunsFrom, after_ruled, after_step, after_turn, acted, turn_counted, is_failed}
+use Rattle.xp_protocol.specs.State.{State, Old, Off, Ready, Leaving, Area, Peer, PeerGoing, Reading, cold_peer, peer_of}
+use Rattle.xp_protocol.specs.Peering.{Here, place_read, last_read, read_place, is_left, is_bad_flags, is_magic, is_wrong, has_shown, peer_can, peer_effect, record_read, contact_made, same_peer, with_reason}
+use Rattle.xp_protocol.specs.Rules.{here_of, mark_of, peer_answered, peer_numbered}
+use Rattle.xp_protocol.specs.Runs.{after_step, after_turn}
 use Rattle.xp_protocol.proofs.Frames.{cond_peer}
 use Rattle.xp_plan.specs.declared.errand.Errand.{Errand}
 use Rattle.xp_plan.specs.declared.errand.Errand.TheVariants as errands
 use Rattle.xp_plan.specs.EndSteps.{step_if}
-use Rattle.xp_plan.specs.PeerSteps.{for_peer, is_open_to, engage_by, engage_at, has_waited, echo_step, is_backing_off, answer_at, is_activating, may_read, record_at}
-use Rattle.xp_plan.specs.Plan.{asked, is_joined, plan_of}
-use Rattle.xp_windows.specs.Windows.{middle, Changes, Steps, IsFor, IsUp, IsOpenTo, IsOffered, IsActivating, BeginsRecord, EndsRecord, SomeTurn, SomeFrom, Throughout}
+use Rattle.xp_plan.specs.PeerSteps.{for_peer, is_open_to, is_activating, may_read, record_at}
+use Rattle.xp_plan.specs.Plan.{asked, plan_of}
+use Rattle.xp_windows.specs.Windows.{middle, Changes, Steps, IsFor, IsUp, IsActivating, BeginsRecord, EndsRecord, SomeTurn, SomeFrom, Throughout}
 use Rattle.xp_windows.specs.Visited.{rule_by, rule_made}
-use Rattle.xp_windows.proofs.Places.{Turns, Run, first_holds, asks}
-use Rattle.xp_windows.proofs.Asked.{steps_by}
+use Rattle.xp_windows.proofs.Places.{Turns, first_holds, asks}
 use Rattle.xp_windows.proofs.Copies.{whole}
 use Rattle.xp_windows.proofs.Lives.{on_turn}
-use Rattle.xp_windows.proofs.PeerFrames.{ActsLeave, StepsLeave, acts_leave, made_leaves}
-use Rattle.xp_windows.proofs.Planned.{planned_by}
-use Rattle.xp_windows.proofs.Engaged.{Stands, uncontacted}
+use Rattle.xp_windows.proofs.PeerFrames.{ActsLeave, acts_leave}
+use Rattle.xp_windows.proofs.Engaged.{Stands}
 use Rattle.xp_windows.proofs.Looks.{Tied}
-use Rattle.xp_windows.proofs.Facts.{Facts, Pacing, pacing_next, Placed, facts_mid, calm, apart_fits, unjoined, fits_engage, fits_answer, fits_record, in_range, made_for, looks_aside, not_looking}
+use Rattle.xp_windows.proofs.Facts.{Facts, Pacing, pacing_next, facts_mid, apart_fits, unjoined, fits_record, in_range, made_for}
 use Rattle.xp_windows.proofs.PeerFrames.{Awaits, turn_awaits}
 use Rattle.xp_windows.proofs.Engages.{opens_to}
 use Rattle.xp_windows.proofs.Replies.{not_activating}

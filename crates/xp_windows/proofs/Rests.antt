@@ -1,8 +1,7 @@
 -- The words of a channel are copied while it is connected alone: so no copy begins while it closes, one
 -- that goes on is over with the reason, and none goes on without contact.
-use Rattle.std.proofs.Common.{◌≡◌, ℕ, Bool, true, false, ◌&&◌, ◌||◌, List, [], ◌∷◌, refl, ap, sym, ◌∙◌, subst, inl, inr, ◌⊎◌, Option, Some, None}
-use Rattle.std.specs.Prelude.{IsSome, is_some, not, nat_eq, nat_lt, if◌then◌else◌, length}
-use Rattle.std.proofs.lemmas.Bool.{and_parts}
+use Rattle.std.proofs.Common.{◌≡◌, ℕ, Bool, true, false, ◌&&◌, List, [], ◌∷◌, refl, ap, sym, ◌∙◌, subst, inl, inr, ◌⊎◌, Option, Some, None}
+use Rattle.std.specs.Prelude.{IsSome, is_some, not, nat_eq, if◌then◌else◌}
 use Rattle.xp_base.specs.declared.answer.SendAnswer.{SendAnswer}
 use Rattle.xp_base.specs.declared.answer.TakeAnswer.{TakeAnswer}
 use Rattle.xp_base.specs.declared.answer.TakeAnswer.TheVariants.{Taken as TakenAnswer, Empty, Disconnecting, NotConnected}
@@ -15,7 +14,7 @@ use Rattle.xp_base.specs.declared.reason.Reason.{Reason}
 use Rattle.xp_base.specs.declared.reason.Reason.TheVariants.{Unregistered}
 use Rattle.xp_base.specs.declared.step.CopyKind.{CopyKind}
 use Rattle.xp_base.specs.declared.step.CopyKind.TheVariants.{Counters, Entries}
-use Rattle.xp_base.specs.History.{Act, Marked, Turn, NoticeKind, Delivered, Ended}
+use Rattle.xp_base.specs.History.{Act, Turn, NoticeKind, Delivered, Ended}
 use Rattle.xp_script.specs.declared.command.Command.{Command}
 use Rattle.xp_script.specs.declared.command.Command.TheVariants as commands
 use Rattle.xp_script.specs.declared.log.Verb.{Verb}
@@ -36,23 +35,23 @@ use Rattle.xp_protocol.specs.declared.rule.PeerRule.TheVariants.{AskActivation, 
 use Rattle.xp_protocol.specs.declared.rule.Rule.{Rule}
 use Rattle.xp_protocol.specs.declared.rule.Rule.TheVariants.{Link}
 use Rattle.xp_protocol.specs.Effects.{Effect, just, Withdrawn, Note, BySend, ByPull, Accepted, Sent, Heard, TakeRefused, Released, Drained}
-use Rattle.xp_protocol.specs.Pulling.{Pulling, take_refusal, is_copying}
+use Rattle.xp_protocol.specs.Pulling.{Pulling, take_refusal}
 use Rattle.xp_protocol.specs.Releasing.{Releasing, release_refusal, message_released}
-use Rattle.xp_protocol.specs.State.{State, Shake, End, each, Peer, PeerGoing, Reading, Old, cold_peer, idle_end, idle_links, link_at, peer_of, end_of, is_connected, is_begun, link_of, shake_begun, shake_connected}
+use Rattle.xp_protocol.specs.State.{State, Shake, End, each, Peer, PeerGoing, Reading, Old, cold_peer, idle_end, idle_links, link_at, peer_of, end_of, is_connected, link_of, shake_connected}
 use Rattle.xp_protocol.specs.Linking.{hear, hears, close_now, down_notes, down_end, channel_closed, kind_left, kind_got, end_sent, argument_stored, with_argument, copy_failed, link_down, link_finished, booted_end}
 use Rattle.xp_protocol.specs.Peering.{Here, peer_can, peer_effect, area_left_for, contact_made, same_peer, record_read, is_magic, is_wrong, has_shown, is_bad_flags, copy_ended}
 use Rattle.xp_protocol.proofs.Slots.{at_each}
 use Rattle.xp_protocol.proofs.Frames.{cond_peer, idle_at}
-use Rattle.xp_protocol.specs.Acts.{say, refused_send, send_begun, take_begun, release_held, release_begun, drain_refusal, drain_begun, register_begun, unregister_begun, end_begun, taken_by, take_found, take_answered, answered_by, end_answered, end_noticed, after_acts}
+use Rattle.xp_protocol.specs.Acts.{say, refused_send, send_begun, take_begun, release_held, release_begun, drain_refusal, drain_begun, register_begun, unregister_begun, end_begun, taken_by, take_found, take_answered, answered_by, end_noticed, after_acts}
 use Rattle.xp_protocol.specs.Runs.{May, after_step, after_turn, acted, turn_counted, start}
 use Rattle.xp_plan.specs.declared.errand.Errand.{Errand}
 use Rattle.xp_plan.specs.Plan.{plan_of}
 use Rattle.xp_windows.specs.Windows.{middle}
 use Rattle.xp_windows.specs.Visited.{rule_made}
 use Rattle.xp_windows.proofs.Copies.{whole}
-use Rattle.xp_windows.proofs.Frame.{connected_by}
 use Rattle.xp_windows.proofs.Keeps.{ActsKeep, acts_keep}
 use Rattle.xp_windows.proofs.PeerFrames.{ActsLeave, StepsLeave, acts_leave, made_leaves, moment_leaves, start_has as peer_start}
+use Rattle.xp_windows.proofs.Settles.{SettleKeeps}
 use Rattle.xp_windows.proofs.EndFrames.{EndKeeps, turn_leaves, start_has}
 use Rattle.xp_windows.proofs.Planned.{planned_by}
 
@@ -261,9 +260,8 @@ abbrev pub Copies : End → LinkRule → Type 0
 Copies e (Pull m) = is_connected e ≡ true
 Copies e m = Unit {0}
 
-rests_keep : EndKeeps Copies Rests
-rests_keep = record {
-  acts = rests_acts;
+rests_settle : SettleKeeps Rests
+rests_settle = record {
   heard = λ n e h. hear_leaves (λ x y. Quiet x ⊎ (shake_connected y ≡ true)) (λ x y i. i) n e h;
   down = λ reason e i h. inl (record { counters = refl; copied = refl });
   over = λ e i h. inl (record { counters = refl; copied = refl });
@@ -272,6 +270,12 @@ rests_keep = record {
   dropped = λ e h. h;
   owing = λ e h. rests_same e (record e { sides = record e.sides { pull = record e.sides.pull { owed = true } } }) refl refl refl h;
   sized = λ e size h. h;
+}
+
+rests_keep : EndKeeps Copies Rests
+rests_keep = record {
+  acts = rests_acts;
+  settling = rests_settle;
   taken = λ ks e h. h;
   sent = λ k e can n h. sends k e h;
   told = λ e n h. h;

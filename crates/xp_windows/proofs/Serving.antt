@@ -1,5 +1,5 @@
 -- In each window what is owed is served.
-use Rattle.std.proofs.Common.{◌≡◌, ℕ, ◌+◌, ◌*◌, ◌<◌, ◌≤◌, Bool, true, false, List, [], ◌∷◌, ◌++◌, length, refl, ap, sym, ◌∙◌, subst, arith, inl, inr, ◌⊎◌, Option, None, Some}
+use Rattle.std.proofs.Common.{◌≡◌, ℕ, ◌+◌, ◌*◌, ◌<◌, ◌≤◌, Bool, true, false, List, [], ◌∷◌, ◌++◌, length, refl, ap, sym, ◌∙◌, subst, arith, inl, inr, Option, None, Some}
 use Rattle.std.specs.Prelude.{IsSome, ◌-◌, nat_lt, nat_eq, ◌||◌, if◌then◌else◌}
 use Rattle.std.proofs.lemmas.Bool.{or_left}
 use Rattle.std.proofs.lemmas.Bool.Decides.{nat_tests}
@@ -40,6 +40,7 @@ use Rattle.xp_windows.proofs.Planned.{planned_by}
 use Rattle.xp_windows.proofs.Frame.{connected_by}
 use Rattle.xp_windows.proofs.Rests.{Rests}
 use Rattle.xp_windows.proofs.Facts.{Facts, facts_next, facts_first, none_copying}
+use Rattle.xp_windows.proofs.Controls.{arguments_loaded, flags_sent}
 use Rattle.xp_windows.proofs.Opens.{areas_opened}
 use Rattle.xp_windows.proofs.Engages.{bits_set}
 use Rattle.xp_windows.proofs.Replies.{bits_left, bits_cleared, echoes_stored, seconds_stored}
@@ -163,6 +164,8 @@ owed s boot st window l long up w =
       engagements = λ h. engagements_read boot s some w.visit st window enough y h;
       flags = λ q p h. flags_taken boot s q (placed s q l p) w.visit st window enough y h;
       requests = λ q c p owes h. requests_made boot s q c (peer_placed s q c l p) p.2 w.visit st window enough y h owes;
+      arguments = λ q c g p h. let z = peer_placed s q c l p in arguments_loaded boot s q c z p.2 g w.visit st window enough y x.paced x.facts (x.tied q z) h;
+      controls = λ q c k size p other h. let z = peer_placed s q c l p in flags_sent boot s q c z p.2 k size other w.visit st window enough y x.paced x.facts (x.tied q z) h;
       stores = λ q c p owes h. gets_stored boot s q c (peer_placed s q c l p) p.2 w.visit st window enough y h owes;
       copies = λ q c p owes h. copies_made boot s q c (peer_placed s q c l p) p.2 w.visit st window long y x.paced h owes;
       sends = λ q c payload wait notify h. sends_made s q c payload wait notify boot some w.visit st window enough y h;

@@ -34,7 +34,7 @@ use Rattle.xp_windows.proofs.Places.{Turns, Run, run_next, first_holds, asks, fi
 use Rattle.xp_windows.proofs.Asked.{steps_by}
 use Rattle.xp_windows.proofs.Throughout.{asked_link}
 use Rattle.xp_windows.proofs.Frame.{While, Framed, OwnSteps, connected_by, stands, hears_keep, pulled_keeps, failed_keeps, begun_keeps, answered_keeps, noticed_keeps}
-use Rattle.xp_windows.proofs.Keeps.{ActsKeep, acts_keep, turn_keeps}
+use Rattle.xp_windows.proofs.Keeps.{ActsKeep, acts_keep, turn_keeps, among}
 use Rattle.xp_windows.proofs.Made.{Does, step_makes}
 
 -- a message request is owed
@@ -209,7 +209,7 @@ module _ (boot : ℕ) (s : ScenarioPart) (q c : ℕ) (x : Spot s.part s.count q)
   stays st t ts r h = stored_or st t ts (turn_keeps Stores stores_framed s q c IsStore store_steps st t r.runs.0 r.holds.1.met r.holds.1.connected (after_holds st t ts r) h)
 
   after_request : (st : State) (t : Turn) (ts : List Turn) → Run boot (IsOpen q c) s st (t ∷ ts) → rule_made s (middle s st t) t ≡ Some (Link q c (SetFlag MsgRequest)) → Quiet (end_of (after_turn s st t) q c)
-  after_request st t ts r e = step_makes s q c Quiet quiet_acts st t (SetFlag MsgRequest) r.runs.0 r.holds.1.met r.holds.1.connected (after_holds st t ts r) e quiet where
+  after_request st t ts r e = step_makes s q c Quiet quiet_acts st t (SetFlag MsgRequest) r.runs.0 r.holds.1.met (among (middle s st t) q c r.holds.1.connected) (after_holds st t ts r) e quiet where
     quiet : (a : Answer) → is_failed a ≡ fails_at s (mark_of s (middle s st t) (Link q c (SetFlag MsgRequest))) → (Does s q c (middle s st t) (SetFlag MsgRequest) a).reason ≡ None → Quiet (Does s q c (middle s st t) (SetFlag MsgRequest) a).local
     quiet (Word w) f g = λ a b. refl
     quiet Failed f g = absurd (cc)

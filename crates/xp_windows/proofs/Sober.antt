@@ -1,6 +1,6 @@
 -- Which control flags stand before which: no close reply is sent before the close request, no close
 -- request without a reason, and no open reply before the open request.
-use Rattle.std.proofs.Common.{◌≡◌, ℕ, Bool, true, false, ◌&&◌, ◌||◌, List, [], ◌∷◌, refl, ap, sym, ◌∙◌, subst, Option, Some, None}
+use Rattle.std.proofs.Common.{◌≡◌, ℕ, Bool, true, false, ◌&&◌, List, [], ◌∷◌, refl, ap, sym, ◌∙◌, subst, Option, Some, None}
 use Rattle.std.specs.Prelude.{is_some, not, if◌then◌else◌}
 use Rattle.std.proofs.lemmas.Bool.{and_parts}
 use Rattle.xp_base.specs.declared.link.Kind.{Kind}
@@ -13,12 +13,13 @@ use Rattle.xp_protocol.specs.declared.rule.Argument.{Argument}
 use Rattle.xp_protocol.specs.declared.rule.Argument.TheVariants.{Request, Reply, Code}
 use Rattle.xp_protocol.specs.declared.rule.LinkRule.{LinkRule}
 use Rattle.xp_protocol.specs.declared.rule.LinkRule.TheVariants.{SetFlag}
-use Rattle.xp_protocol.specs.Effects.{just, Note, BySend, ByPull, Accepted, Sent, Heard, TakeRefused, Released, Drained, Registered, Withdrawn}
+use Rattle.xp_protocol.specs.Effects.{just, Note, BySend, ByPull, Accepted, Sent, Heard, TakeRefused, Released, Drained}
 use Rattle.xp_protocol.specs.State.{State, Shake, End, end_of, no_shake, first_met, idle_end, is_begun}
-use Rattle.xp_protocol.specs.Linking.{hear, hears, close_now, down_notes, down_end, channel_closed, link_closed, link_down, epoch_over, with_taken, joined_end, kind_left, kind_got, end_sent, owed, agreed, agreed_by, link_can, argument_stored, with_argument, limit_in}
+use Rattle.xp_protocol.specs.Linking.{hear, hears, close_now, down_notes, down_end, channel_closed, link_closed, link_down, epoch_over, with_taken, joined_end, kind_left, kind_got, end_sent, agreed, agreed_by, link_can, argument_stored, with_argument, limit_in}
 use Rattle.xp_protocol.specs.Runs.{May, after_turn, start}
 use Rattle.xp_windows.proofs.Keeps.{ActsKeep}
 use Rattle.xp_windows.proofs.Rests.{acts_by}
+use Rattle.xp_windows.proofs.Settles.{SettleKeeps}
 use Rattle.xp_windows.proofs.EndFrames.{EndKeeps, turn_leaves, start_has}
 
 pub record Sober (x : Shake) : Type 0 where
@@ -83,7 +84,7 @@ gets CloseReply e h = same e.shake (kind_got CloseReply e).shake refl refl h
 gets MsgRequest e h = same e.shake (kind_got MsgRequest e).shake refl refl h
 
 -- a limit is agreed once both open requests are there
-agreed_asked : (x : Shake) → is_some (agreed x) ≡ true → x.sent.open_request ≡ true
+pub agreed_asked : (x : Shake) → is_some (agreed x) ≡ true → x.sent.open_request ≡ true
 agreed_asked x e = by x.sent.open_request x.got.open_request e where
   by : (a b : Bool) → is_some (if a && b then agreed_by x.both_new (limit_in x.own_size) (limit_in x.their_size) else None) ≡ true → a ≡ true
   by true b f = refl
@@ -116,9 +117,8 @@ Any e m = Unit {0}
 pub sober_acts : ActsKeep Sobers
 sober_acts = acts_by Sobers (λ e y a b d h. subst Sober (sym d) h) channel
 
-sober_keep : EndKeeps Any Sobers
-sober_keep = record {
-  acts = sober_acts;
+sober_settle : SettleKeeps Sobers
+sober_settle = record {
   heard = heard;
   down = λ reason e i h. down_sober reason e h;
   over = λ e i h. fresh (epoch_over e).local.shake refl refl refl;
@@ -127,6 +127,12 @@ sober_keep = record {
   dropped = λ e h. same e.shake (record e.shake { taken = without MsgRequest e.shake.taken }) refl refl h;
   owing = λ e h. h;
   sized = λ e size h. same e.shake (record e.shake { their_size = size }) refl refl h;
+}
+
+sober_keep : EndKeeps Any Sobers
+sober_keep = record {
+  acts = sober_acts;
+  settling = sober_settle;
   taken = λ ks e h. same e.shake (with_taken ks e).shake refl refl h;
   sent = λ k e can n h. sends k e can h;
   told = λ e n h. same e.shake (record e.shake { owes_message = false }) refl refl h;

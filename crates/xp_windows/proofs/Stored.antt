@@ -1,69 +1,36 @@
 -- Which words of the own memory for a partner were stored since it is free: their bits, how many are
 -- left, and that none is where all bits stand.
-use Rattle.std.proofs.Common.{◌≡◌, ℕ, zero, suc, ◌+◌, ◌-◌, ◌*◌, ◌<◌, ◌≤◌, Bool, true, false, ◌&&◌, ◌||◌, List, [], ◌∷◌, length, refl, ap, sym, ◌∙◌, subst, arith, inl, inr, ◌⊎◌, Option, Some, None}
-use Rattle.std.specs.Prelude.{IsSome, is_some, not, nat_lt, nat_le, nat_eq, if◌then◌else◌}
-use Rattle.std.proofs.lemmas.Bool.{and_parts}
+use Rattle.std.proofs.Common.{◌≡◌, ℕ, zero, suc, ◌+◌, ◌-◌, ◌*◌, ◌<◌, ◌≤◌, Bool, true, false, ◌&&◌, ◌||◌, List, [], ◌∷◌, refl, ap, sym, ◌∙◌, subst, arith, inl, inr, ◌⊎◌, Option, Some, None}
+use Rattle.std.specs.Prelude.{is_some, not, nat_eq, if◌then◌else◌}
 use Rattle.std.proofs.lemmas.Bool.Decides.{nat_tests}
-use Rattle.xp_base.specs.declared.layout.TheConstants.{RECORD_WORDS}
 use Rattle.xp_base.specs.declared.reason.Reason.{Reason}
-use Rattle.xp_base.specs.declared.step.Answer.{Answer}
-use Rattle.xp_base.specs.declared.step.Answer.TheVariants.{Word, Failed}
-use Rattle.xp_base.specs.declared.step.CopyKind.{CopyKind}
-use Rattle.xp_base.specs.History.{Act, Marked, Turn}
+use Rattle.xp_base.specs.History.{Turn}
 use Rattle.xp_script.specs.declared.part.ScenarioPart.{ScenarioPart}
-use Rattle.xp_rounds.specs.declared.rounds.TheConstants.{VISIT_TURNS}
-use Rattle.xp_rounds.specs.Visit.{Visit, planned}
-use Rattle.xp_rounds.proofs.Visits.{Fits, Aside}
-use Rattle.xp_rounds.proofs.Sources.{Paced}
-use Rattle.xp_rounds.proofs.Duties.{Along, Moved}
-use Rattle.xp_rounds.proofs.Asides.{Duty, done}
-use Rattle.xp_rounds.proofs.Spots.{Spot}
-use Rattle.xp_protocol.specs.declared.contact.Contact.{Contact}
-use Rattle.xp_protocol.specs.declared.contact.PartnerState.{PartnerState}
-use Rattle.xp_protocol.specs.declared.contact.PartnerState.TheVariants.{Inactive, Requested, Activating}
+use Rattle.xp_protocol.specs.declared.contact.PartnerState.TheVariants.{Requested, Activating}
 use Rattle.xp_protocol.specs.declared.rule.PeerRule.{PeerRule}
 use Rattle.xp_protocol.specs.declared.rule.PeerRule.TheVariants.{AskActivation, TakeFlags, CloseArea, ZeroMagic, ClearOldBit, Prepare, OpenArea, SetEngagementBit, ReadRecord, StoreEcho, StoreSecond, ClearEngagementBit, LookAtPage, ClearDeactivationBit, TellPartner}
-use Rattle.xp_protocol.specs.declared.rule.Rule.{Rule}
-use Rattle.xp_protocol.specs.declared.rule.Rule.TheVariants.{Peer as ForPeer}
-use Rattle.xp_protocol.specs.Effects.{Effect, Note}
-use Rattle.xp_protocol.specs.State.{State, Up, Old, Off, Ready, Leaving, Area, Peer, PeerGoing, Engage, Reading, cold_peer, peer_at, peer_of, end_of}
-use Rattle.xp_protocol.specs.Peering.{Here, HasWaited, is_ready, is_good, is_left, is_bad_flags, is_magic, is_wrong, has_shown, peer_can, peer_effect, prepared, record_read, try_contact, contact_made, same_peer, area_left_for, copies_go_on, copy_ended, with_reason}
-use Rattle.xp_protocol.specs.Rules.{here_of, mark_of, peer_answered, after_answer}
-use Rattle.xp_protocol.specs.Acts.{after_acts, unwanted}
-use Rattle.xp_protocol.specs.Decode.{rule_of}
-use Rattle.xp_protocol.specs.Runs.{May, MayMake, MayStep, RunsFrom, after_ruled, after_step, after_turn, acted, turn_counted, is_failed}
+use Rattle.xp_protocol.specs.State.{State, Old, Ready, Peer, PeerGoing, Engage, Reading, cold_peer, peer_of}
+use Rattle.xp_protocol.specs.Peering.{Here, is_bad_flags, is_magic, is_wrong, has_shown, peer_can, peer_effect, prepared, record_read, contact_made, same_peer, area_left_for, copy_ended, with_reason}
+use Rattle.xp_protocol.specs.Acts.{unwanted}
+use Rattle.xp_protocol.specs.Runs.{May, after_step, after_turn, acted, turn_counted}
 use Rattle.xp_protocol.proofs.Frames.{cond_peer}
-use Rattle.xp_plan.specs.declared.errand.Errand.{Errand}
-use Rattle.xp_plan.specs.declared.errand.Errand.TheVariants as errands
-use Rattle.xp_plan.specs.EndSteps.{step_if}
-use Rattle.xp_plan.specs.PeerSteps.{for_peer, is_open_to, engage_by, engage_at, has_waited, echo_step, is_backing_off, answer_at, is_activating, may_read, record_at}
-use Rattle.xp_plan.specs.Plan.{asked, is_joined, plan_of}
-use Rattle.xp_windows.specs.Windows.{middle, Changes, Steps, IsFor, IsUp, IsOpenTo, IsOffered, IsActivating, BeginsRecord, EndsRecord, SomeTurn, SomeFrom, Throughout}
-use Rattle.xp_windows.specs.Visited.{rule_by, rule_made}
-use Rattle.xp_windows.proofs.Places.{Turns, Run, first_holds, asks}
-use Rattle.xp_windows.proofs.Asked.{steps_by}
-use Rattle.xp_windows.proofs.Copies.{whole}
-use Rattle.xp_windows.proofs.Lives.{on_turn}
+use Rattle.xp_windows.specs.Windows.{middle}
 use Rattle.xp_windows.proofs.PeerFrames.{ActsLeave, StepsLeave, acts_leave, made_leaves}
-use Rattle.xp_windows.proofs.Planned.{planned_by}
-use Rattle.xp_windows.proofs.Engaged.{Stands, uncontacted}
-use Rattle.xp_windows.proofs.Looks.{Tied}
-use Rattle.std.specs.Prelude.{bit_or, ◌^◌, ◌/◌, ◌%◌}
+use Rattle.std.specs.Prelude.{bit_or, ◌^◌}
 use Rattle.std.specs.Int.{bit_at}
-use Rattle.std.proofs.lemmas.Nat.Bits.{bit_at_or, bit_at-pow_same, bit_at-pow_other, bit_at_ones, same_from_bits_below, bit_at-lt, bit_at-zero, bit_at_mask_inside, bit_at_mask_below}
+use Rattle.std.proofs.lemmas.Nat.Bits.{bit_at_or, bit_at-pow_same, bit_at-pow_other, same_from_bits_below, bit_at-lt, bit_at-zero, bit_at_mask_inside, bit_at_mask_below}
 use Rattle.std.proofs.lemmas.Nat.{or_lt, pow_pos, pow_below}
 use Rattle.std.proofs.lemmas.Bool.{cases_eq, cases_lt}
-use Rattle.xp_base.specs.declared.layout.TheConstants.{CHANNELS, ARGS_WORDS, COUNTER_WORDS}
 use Rattle.xp_protocol.specs.declared.rule.AreaWord.{AreaWord}
 use Rattle.xp_protocol.specs.declared.rule.AreaWord.TheVariants.{SessionWord, EchoWord, PlaceWord, ArgsWord, FlagWord, CounterWord}
 use Rattle.xp_protocol.specs.declared.rule.RecordField.{RecordField}
 use Rattle.xp_protocol.specs.declared.rule.RecordField.TheVariants.{ArgsPlace, CountersPlace, FlagPlace, ChannelCount, Spare}
-use Rattle.xp_protocol.specs.Peering.{field_number, is_off, IsAreaWord, area_off, booted_peer}
+use Rattle.xp_protocol.specs.Peering.{field_number, IsAreaWord, area_off, booted_peer}
 use Rattle.xp_script.specs.declared.part.Link.{Link as ScenarioLink}
 use Rattle.xp_protocol.specs.State.{base_peer, warm_peer}
 use Rattle.xp_protocol.specs.Runs.{start}
-use Rattle.xp_plan.specs.PeerSteps.{unset_from, field_of, place_word, args_word, counter_word, words_missing, word_missing, open_step, prepare_by, prepare_free, prepare_at}
-use Rattle.xp_windows.proofs.PeerFrames.{Awaits, turn_awaits, moment_leaves, start_has}
+use Rattle.xp_plan.specs.PeerSteps.{unset_from}
+use Rattle.xp_windows.proofs.PeerFrames.{moment_leaves, start_has}
 
 -- how many of n bits from bit k on aresomet set
 abbrev one_if : Bool → ℕ

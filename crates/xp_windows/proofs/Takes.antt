@@ -1,19 +1,17 @@
 -- A take that goes on loads the next entry at the own place, where there is one, and else the counters
 -- at its partner's.
-use Rattle.std.proofs.Common.{◌≡◌, ℕ, ◌+◌, ◌*◌, ◌<◌, ◌≤◌, Bool, true, false, ◌&&◌, ◌||◌, cond, List, [], ◌∷◌, ◌++◌, length, refl, ap, sym, ◌∙◌, subst, arith, inl, inr, ◌⊎◌, Option, Some, None}
-use Rattle.std.specs.Prelude.{IsSome, is_some, not, nat_lt, nat_eq, if◌then◌else◌}
+use Rattle.std.proofs.Common.{◌≡◌, ℕ, ◌+◌, ◌*◌, ◌<◌, Bool, true, false, ◌&&◌, ◌||◌, List, [], ◌∷◌, length, refl, ap, ◌∙◌, arith, inl, inr, ◌⊎◌, Option, Some, None}
+use Rattle.std.specs.Prelude.{IsSome, is_some, not, nat_lt, if◌then◌else◌}
 use Rattle.std.proofs.lemmas.Bool.{or_parts}
 use Rattle.std.proofs.lemmas.Bool.Decides.{nat_tests}
 use Rattle.xp_base.specs.declared.layout.TheConstants.{CHANNELS}
 use Rattle.xp_base.specs.declared.reason.Reason.TheVariants.{BadCounters}
 use Rattle.xp_base.specs.History.{Turn}
 use Rattle.xp_script.specs.declared.command.Command.{Command}
-use Rattle.xp_script.specs.declared.command.Command.TheVariants.{Take}
 use Rattle.xp_script.specs.declared.part.ScenarioPart.{ScenarioPart}
 use Rattle.xp_rounds.specs.declared.rounds.TheConstants.{VISIT_TURNS}
 use Rattle.xp_rounds.specs.Visit.{Visit}
 use Rattle.xp_rounds.proofs.Spots.{Spot}
-use Rattle.xp_protocol.specs.declared.rule.Argument.{Argument}
 use Rattle.xp_protocol.specs.declared.rule.RingRule.TheVariants.{ReadGet, WriteEntryWord, AcceptMessage}
 use Rattle.xp_protocol.specs.declared.rule.PullRule.{PullRule}
 use Rattle.xp_protocol.specs.declared.rule.PullRule.TheVariants.{ReadCounters, ReadEntry}
@@ -21,17 +19,17 @@ use Rattle.xp_protocol.specs.declared.rule.LinkRule.{LinkRule}
 use Rattle.xp_protocol.specs.declared.rule.LinkRule.TheVariants.{Ring, Pull, Acknowledge, SetFlag, ZeroGet, ZeroPut, StoreArgument, ReadArgument}
 use Rattle.xp_protocol.specs.declared.rule.Rule.TheVariants.{Link}
 use Rattle.xp_protocol.specs.Effects.{Effect, PullNote, Heard}
-use Rattle.xp_protocol.specs.Pulling.{Pulling, SenderCounters, pull_effect, counters_pulled, get_pulled, put_pulled, is_bad_counter, is_bad_put, shown_empty}
+use Rattle.xp_protocol.specs.Pulling.{Pulling, SenderCounters, pull_effect, counters_pulled, is_bad_counter, is_bad_put, shown_empty}
 use Rattle.xp_protocol.specs.State.{State, End, Sides, end_of, is_connected}
 use Rattle.xp_protocol.specs.Linking.{by_pull, sender_counters, acknowledged, release_notes}
 use Rattle.xp_protocol.specs.Rules.{end_failed, mark_of}
 use Rattle.xp_protocol.specs.Acts.{current}
 use Rattle.xp_plan.specs.declared.errand.Errand.{Errand}
 use Rattle.xp_plan.specs.declared.errand.Errand.TheVariants as errands
-use Rattle.xp_plan.specs.EndSteps.{step_if, has_entry, take_at, is_polling, counters_at}
+use Rattle.xp_plan.specs.EndSteps.{step_if, has_entry, take_at, counters_at}
 use Rattle.xp_plan.specs.Plan.{asked, command_asked, script_asked}
-use Rattle.xp_windows.specs.Windows.{At, TakesOn, IsUp, IsOpen, IsTaking, SomeTurn, Throughout, Steps}
-use Rattle.xp_windows.proofs.Places.{Turns, first_holds, asks, asks_own, own_fits, fits_script, fits_counters}
+use Rattle.xp_windows.specs.Windows.{At, TakesOn, IsTaking, SomeTurn, Throughout, Steps}
+use Rattle.xp_windows.proofs.Places.{Turns, asks, asks_own, own_fits, fits_script, fits_counters}
 use Rattle.xp_windows.proofs.Throughout.{asked_link}
 use Rattle.xp_windows.proofs.Frame.{While, Framed, OwnSteps, hears_keep, pulled_keeps}
 use Rattle.xp_windows.proofs.Kept.{kept_in_time}

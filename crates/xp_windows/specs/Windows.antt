@@ -1,14 +1,19 @@
 -- What a partition owes within a window of turns, whatever the memory answers: nothing that is due
 -- waits longer. A window lies within one boot. What its premises say holds throughout: before each
 -- of its turns, right before each step, and after the last turn.
-use Rattle.std.specs.Prelude.{◌≡◌, ℕ, ◌<◌, Bool, true, false, ◌||◌, List, [], ◌∷◌, ◌++◌, length, Some, None, IsSome, ◌⊎◌}
+use Rattle.std.specs.Prelude.{◌≡◌, ℕ, ◌<◌, Bool, true, false, ◌||◌, List, [], ◌∷◌, ◌++◌, length, Option, Some, None, IsSome, ◌⊎◌}
 use Rattle.xp_base.specs.History.{Act, Begun, Answered, Noticed, Marked, Turn}
 use Rattle.xp_base.specs.Windows.{window_of}
+use Rattle.xp_base.specs.declared.link.Kind.{Kind}
 use Rattle.xp_base.specs.declared.link.Kind.TheVariants.{MsgRequest}
+use Rattle.xp_base.specs.Kinds.{has}
 use Rattle.xp_script.specs.declared.command.Command.TheVariants.{Send, Take}
 use Rattle.xp_script.specs.declared.part.ScenarioPart.{ScenarioPart}
 use Rattle.xp_protocol.specs.declared.rule.LinkRule.{LinkRule}
-use Rattle.xp_protocol.specs.declared.rule.LinkRule.TheVariants.{Ring, Pull, Acknowledge, SetFlag}
+use Rattle.xp_protocol.specs.declared.rule.LinkRule.TheVariants.{Ring, Pull, Acknowledge, SetFlag, ReadArgument}
+use Rattle.xp_protocol.specs.declared.rule.Argument.{Argument}
+use Rattle.xp_protocol.specs.declared.contact.Size.{Size}
+use Rattle.xp_protocol.specs.Linking.{owed, kind_of, has_argument}
 use Rattle.xp_protocol.specs.declared.rule.PullRule.TheVariants.{ReadCounters, ReadEntry}
 use Rattle.xp_protocol.specs.declared.rule.PeerRule.{PeerRule}
 use Rattle.xp_protocol.specs.declared.rule.PeerRule.TheVariants.{TakeFlags, CloseArea, OpenArea, SetEngagementBit, ReadRecord, StoreEcho, StoreSecond, ClearEngagementBit, LookAtPage, TellPartner}
@@ -128,6 +133,21 @@ pub record IsOpen (q c : ℕ) (st : State) : Type 0 where
   pub met : IsMet q st
   pub connected : is_connected (end_of st q c) ≡ true
 
+-- an argument that a taken flag waits for may be loaded: it wasn't, and no close reply was sent
+pub record IsAwaited (q c : ℕ) (x : Argument) (st : State) : Type 0 where
+  pub met : IsMet q st
+  pub contact : IsSome (end_of st q c).shake.meet
+  pub taken : has (kind_of x) (end_of st q c).shake.taken ≡ true
+  pub missing : has_argument (kind_of x) (end_of st q c).shake ≡ false
+  pub unreplied : (end_of st q c).shake.sent.close_reply ≡ false
+
+-- a control flag is owed, under this registration of its channel
+pub record IsOwing (q c : ℕ) (k : Kind) (size : Option Size) (st : State) : Type 0 where
+  pub met : IsMet q st
+  pub contact : IsSome (end_of st q c).shake.meet
+  pub owed : owed k (end_of st q c) ≡ true
+  pub registration : (end_of st q c).registration ≡ size
+
 -- the script's send to an end goes on: it is in progress, and isn't over
 pub record IsSent (s : ScenarioPart) (q c : ℕ) (payload : List ℕ) (wait notify : Bool)
     (st : State) : Type 0 where
@@ -151,6 +171,10 @@ IsLeft s st = any_left s.part 0 st.peers ≡ true
 abbrev pub At : ℕ → ℕ → (End → LinkRule → Type 0) → State → Rule → Type 0
 At q c E st (Link k d m) = (k ≡ q) × (d ≡ c) × E (end_of st q c) m
 At q c E st r = ⊥
+
+-- by this rule
+abbrev pub IsRule : LinkRule → End → LinkRule → Type 0
+IsRule goal e m = m ≡ goal
 
 -- a partner is told by a message request; get is stored
 abbrev pub IsRequest : End → LinkRule → Type 0
@@ -254,6 +278,12 @@ pub record Owed (s : ScenarioPart) (st : State) (window : List Turn) : Type 0 wh
   pub requests : (q c : ℕ) → IsPeer s.part s.count q c →
       (end_of st q c).shake.owes_message ≡ true → Throughout (IsOpen q c) s st window →
       SomeTurn (Steps (At q c IsRequest) s) s st window
+  pub arguments : (q c : ℕ) (x : Argument) → IsPeer s.part s.count q c →
+      Throughout (IsAwaited q c x) s st window →
+      SomeTurn (Steps (At q c (IsRule (ReadArgument x))) s) s st window
+  pub controls : (q c : ℕ) (k : Kind) (size : Option Size) → IsPeer s.part s.count q c →
+      (k ≡ MsgRequest → ⊥) → Throughout (IsOwing q c k size) s st window →
+      SomeTurn (Steps (At q c (IsRule (SetFlag k))) s) s st window
   pub stores : (q c : ℕ) → IsPeer s.part s.count q c →
       (end_of st q c).sides.local_get < (end_of st q c).sides.ack.front →
       Throughout (IsOpen q c) s st window → SomeTurn (Steps (At q c IsStore) s) s st window
