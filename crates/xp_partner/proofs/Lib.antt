@@ -1,0 +1,14 @@
+pub mod Four
+pub mod Making
+pub mod Copying
+pub mod Paging
+pub mod Taking
+pub mod Leaving
+pub mod Reserving
+pub mod Naming
+pub mod Telling
+pub mod Wanting
+pub mod Channels
+pub mod Lifting
+pub mod Linked
+pub mod Opening

@@ -1,0 +1,11 @@
+pub mod Partner
+pub mod Named
+pub mod PartnerInside
+pub mod Stepping
+pub mod Making
+pub mod Booting
+pub mod Opening
+pub mod Room
+pub mod Planned
+pub mod Page
+pub mod PageInside
