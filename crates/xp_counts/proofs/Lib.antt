@@ -1,3 +1,4 @@
 mod Ends
 mod Peers
-mod States
+pub mod States
+pub mod Planned

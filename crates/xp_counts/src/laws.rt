@@ -1,15 +1,20 @@
 // What is proved of the counts of a partition.
-ghost use Rattle.std.specs.Prelude.{◌≡◌, ℕ, ◌+◌, ◌*◌, ◌^◌, ◌≤◌, List, length};
+ghost use Rattle.std.specs.Prelude.{◌≡◌, ℕ, ◌+◌, ◌*◌, ◌^◌, ◌<◌, ◌≤◌, List, length};
 ghost use Rattle.std.specs.List.{AllByRecursion};
 ghost use Rattle.xp_base.specs.declared.step.Answer.{Answer};
 ghost use Rattle.xp_base.specs.History.{Act, Turn};
+ghost use Rattle.xp_script.specs.declared.limits.TheConstants.{COMMAND_LIMIT, RESTART_LIMIT};
 ghost use Rattle.xp_script.specs.declared.part.ScenarioPart.{ScenarioPart};
+ghost use Rattle.xp_script.specs.declared.scenario.Scenario.{Scenario};
+ghost use Rattle.xp_script.specs.Lawful.{IsLawful};
+ghost use Rattle.xp_script.specs.Parts.{part_of};
 ghost use Rattle.xp_protocol.specs.declared.rule.Rule.{Rule};
 ghost use Rattle.xp_protocol.specs.State.{State};
 ghost use Rattle.xp_protocol.specs.Rules.{after_answer};
 ghost use Rattle.xp_protocol.specs.Acts.{after_acts};
-ghost use Rattle.xp_protocol.specs.Runs.{start, turn_counted, moment, after_turn, state_after};
+ghost use Rattle.xp_protocol.specs.Runs.{start, turn_counted, moment, after_turn, state_after, May, Runs};
 ghost use Rattle.xp_counts.specs.Counted.{AreCounted, IsBounded, calls_in, raised_by, HasCalls};
+ghost use Rattle.xp_counts.specs.Planned.{IsAsPlanned, HasFewPlans};
 
 /// How many turns a partition makes at most: 2^48.
 pub const MOST_TURNS: u64 = 281_474_976_710_656;
@@ -48,4 +53,25 @@ pub fn counts_fit()
     ensures more { (a b : ℕ) → (st : State) → a ≤ b → AreCounted a st → AreCounted b st }
     ensures fit { (st : State) → (most : ℕ) → most ≤ MOST_CALLS → st.clock.turns ≤ MOST_TURNS
         → IsBounded most st → AreCounted (2 ^ 63) st }
+{}
+
+/// A partition begins no boot that isn't planned: one, and one at each planned restart; and a boot
+/// begins no command but those of its script.
+pub fn boots_planned()
+    ensures start { (s : ScenarioPart) → IsAsPlanned s (start s) }
+    ensures turn { (s : ScenarioPart) → (st : State) → (t : Turn) → May s st t
+        → IsAsPlanned s st → IsAsPlanned s (after_turn s st t) }
+    ensures history { (s : ScenarioPart) → (turns : List Turn) → Runs s turns
+        → IsAsPlanned s (state_after s (start s) turns) }
+{}
+
+/// A lawful scenario plans few restarts of a partition and few commands of a boot. So few boots are
+/// begun, and few commands of each.
+pub fn plans_few()
+    ensures lawful { (s : Scenario) → (p : ℕ) → IsLawful s → p < s.count
+        → HasFewPlans (part_of s p) }
+    ensures boots { (s : ScenarioPart) → (st : State) → HasFewPlans s → IsAsPlanned s st
+        → st.clock.boots ≤ RESTART_LIMIT + 1 }
+    ensures begun { (s : ScenarioPart) → (st : State) → HasFewPlans s → IsAsPlanned s st
+        → st.script.begun ≤ COMMAND_LIMIT }
 {}

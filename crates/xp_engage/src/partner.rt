@@ -1015,6 +1015,13 @@ impl PartnerEnd {
         matches!(self.area.state, AreaState::Off) && self.wanted && self.is_prepared()
     }
 
+    /// Whether the partner is wanted.
+    pub fn is_wanted(&self) -> bool
+        ensures { result ≡ self.now.wanted }
+    {
+        self.wanted
+    }
+
     /// How the partition stands to the partner.
     pub fn state(&self) -> PartnerState
         ensures { result ≡ state_told self.now.engage }

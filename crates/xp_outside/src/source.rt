@@ -5,6 +5,7 @@ ghost use Rattle.std.specs.Io.KnownBytes.{ReadConsumes, Consumes, IsAtEnd};
 ghost use Rattle.xp_outside.specs.Causes.{Rose, HasCause};
 ghost use Rattle.xp_outside.specs.InMemory.{next_call};
 
+use crate::taker::Taker;
 use std::alloc::Global;
 use std::marker::Model;
 
@@ -29,7 +30,7 @@ pub trait Source {
         ensures cause { HasCause (faults self.old) (faults self.new) result };
 }
 
-/// Why `read_all` gave no bytes.
+/// Why an input wasn't read to its end.
 #[derive(Clone, Copy)]
 pub enum ReadError {
     /// A read failed; it was the last one.
@@ -43,7 +44,65 @@ pub enum ReadError {
 /// How many bytes a single read asks for at most.
 const PIECE: usize = 8192;
 
-/// All bytes of a source, where they are no more than a limit, in bytes. After an error the bytes that were read are lost.
+/// Gives all bytes of a source to a taker, piece by piece, where they are no more than a limit, in
+/// bytes. Beside what the taker keeps, one piece is kept.
+pub fn feed_all<S: Source, T: Taker>(
+    source: &mut S,
+    taker: &mut T,
+    limit: usize,
+) -> Result<(), ReadError>
+    requires limit { limit < 2 ^ 32 }
+    requires below { S.faults source.old < 2 ^ 64 - 1 }
+
+    // At Ok the source was read to its end, and the taker took exactly these bytes.
+    ensures whole { OnOk result ((bytes : List ℕ)
+        × Consumes (S.left source.old) (S.left source.new) bytes
+        × T.takes taker.old bytes taker.new × (length bytes ≤ limit)) }
+    ensures end { OnOk result (IsAtEnd (S.left source.new)) }
+
+    // Past the limit exactly one byte was read.
+    ensures long { IsErrOf result ReadError.TooLong → (bytes : List ℕ)
+        × Consumes (S.left source.old) (S.left source.new) bytes × (length bytes ≡ limit + 1) }
+
+    // After any other error some bytes were read, at most as many.
+    ensures front { OnErr result ((bytes : List ℕ)
+        × Consumes (S.left source.old) (S.left source.new) bytes × (length bytes ≤ limit + 1)) }
+
+    // A fault has its cause, and every other answer leaves the count.
+    ensures later { S.faults source.old ≤ S.faults source.new }
+    ensures failed { IsErrOf result ReadError.Failed
+        → Rose (S.faults source.old) (S.faults source.new) }
+    ensures kept { OnOk result (S.faults source.new ≡ S.faults source.old) }
+    ensures kept_too_long { IsErrOf result ReadError.TooLong
+        → S.faults source.new ≡ S.faults source.old }
+    ensures kept_memory { IsErrOf result ReadError.Memory
+        → S.faults source.new ≡ S.faults source.old }
+{
+    let mut piece = [0u8; PIECE];
+    let mut fed = 0;
+    for _turn in 0..=limit {
+        let most = (limit + 1 - fed).min(PIECE);
+        let count = match source.read(&mut piece[..most]) {
+            Ok(count) => count,
+            Err(_) => return Err(ReadError::Failed),
+        };
+        if count == 0 {
+            return Ok(());
+        }
+        fed += count;
+        if fed > limit {
+            return Err(ReadError::TooLong);
+        }
+        match taker.take(&piece[..count]) {
+            Ok(()) => {}
+            Err(_) => return Err(ReadError::Memory),
+        }
+    }
+    Err(ReadError::TooLong)
+}
+
+/// All bytes of a source, where they are no more than a limit, in bytes. After an error the bytes
+/// that were read are lost.
 pub fn read_all<S: Source>(
     alloc: Global,
     source: &mut S,
@@ -53,7 +112,8 @@ pub fn read_all<S: Source>(
     requires below { S.faults source.old < 2 ^ 64 - 1 }
 
     // At Ok the source was read to its end, and gave these bytes.
-    ensures whole { IfOk result (λ bytes. Consumes (S.left source.old) (S.left source.new) bytes.items) }
+    ensures whole { IfOk result (λ bytes.
+        Consumes (S.left source.old) (S.left source.new) bytes.items) }
     ensures end { OnOk result (IsAtEnd (S.left source.new)) }
     ensures within { IfOk result (λ bytes. length bytes.items ≤ limit) }
 
@@ -67,32 +127,17 @@ pub fn read_all<S: Source>(
 
     // A fault has its cause, and every other answer leaves the count.
     ensures later { S.faults source.old ≤ S.faults source.new }
-    ensures failed { IsErrOf result ReadError.Failed → Rose (S.faults source.old) (S.faults source.new) }
+    ensures failed { IsErrOf result ReadError.Failed
+        → Rose (S.faults source.old) (S.faults source.new) }
     ensures kept { OnOk result (S.faults source.new ≡ S.faults source.old) }
-    ensures kept_too_long { IsErrOf result ReadError.TooLong → S.faults source.new ≡ S.faults source.old }
-    ensures kept_memory { IsErrOf result ReadError.Memory → S.faults source.new ≡ S.faults source.old }
+    ensures kept_too_long { IsErrOf result ReadError.TooLong
+        → S.faults source.new ≡ S.faults source.old }
+    ensures kept_memory { IsErrOf result ReadError.Memory
+        → S.faults source.new ≡ S.faults source.old }
 {
     let mut bytes = Vec::new(alloc);
-    let mut piece = [0u8; PIECE];
-    for _turn in 0..=limit {
-        let room = limit + 1 - bytes.len();
-        let most = room.min(PIECE);
-        let count = match source.read(&mut piece[..most]) {
-            Ok(count) => count,
-            Err(_) => return Err(ReadError::Failed),
-        };
-        if count == 0 {
-            return Ok(bytes);
-        }
-        match bytes.extend_from_slice(&piece[..count]) {
-            Ok(()) => {}
-            Err(_) => return Err(ReadError::Memory),
-        }
-        if bytes.len() > limit {
-            return Err(ReadError::TooLong);
-        }
-    }
-    Err(ReadError::TooLong)
+    feed_all(source, &mut bytes, limit)?;
+    Ok(bytes)
 }
 
 // Moves the bytes from a place on to the front of a piece, at most so many, and says how many.

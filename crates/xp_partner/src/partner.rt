@@ -2,6 +2,7 @@
 ghost use Rattle.std.specs.Prelude.{◌≡◌, ℕ, ◌+◌, ◌-◌, ◌<◌, ◌≤◌, ◌^◌, ◌*◌, ◌&&◌, ◌||◌, [], OnOk, true, false};
 ghost use Rattle.xp_protocol.specs.State.{Off, booted_engage, cold_engage};
 ghost use Rattle.xp_engage.specs.Partner.{new_partner as new_standing};
+ghost use Rattle.xp_partner.specs.Named.{AreNamed};
 ghost use Rattle.xp_partner.specs.Partner.{peer_seen, channel_of, of_standing, four_going, four_channels, with_channel, rooms_of};
 ghost use Rattle.xp_engage.specs.Learning.{faulted};
 ghost use Rattle.xp_partner.specs.Room.{HaveTurnRoom, HaveNotes, HaveNotesLeft, AreNoLess};
@@ -112,6 +113,20 @@ impl Partner {
             going: no_copies(),
             ends: new_ends(alloc, own, partner),
         }
+    }
+
+    /// How the partition stands to it.
+    pub fn standing(&self) -> &PartnerEnd
+        ensures { result.now ≡ self.now.standing }
+    {
+        &self.standing
+    }
+
+    /// Each end is that of its channel, between the partition and the partner.
+    pub fn names(&self)
+        ensures { AreNamed self.now.standing.own self.now.standing.partner self.now.channels }
+    {
+        let _standing = &self.standing;
     }
 
     /// The end of a channel.

@@ -97,27 +97,12 @@ pub record IsRecord (s : Scenario) (h : List Event) (p q c : ℕ) (r : Recorded)
 abbrev pub IsPrefixOf : List (List ℕ) → List (List ℕ) → Type 0
 IsPrefixOf front whole = (rest : List (List ℕ)) × (whole ≡ front ++ rest)
 
-abbrev pub Prefix : Scenario → List Event → Type 0
-Prefix s h =
-    (p q c : ℕ) (r : Recorded) → IsRecord s h p q c r →
-    IsPrefixOf r.taken (accepted_of (other s h p q c r))
-
--- the same, said of the newest record of each end of a line
-abbrev pub newest : List Recorded → Recorded
-newest [] = blank_record 0 0
-newest (r ∷ rs) = r
-
 -- a line: a channel of two partitions, whether it opens connected or not
 pub record IsLine (s : Scenario) (p q c : ℕ) : Type 0 where
   pub first : p < s.count
   pub second : q < s.count
   pub apart : p ≡ q → ⊥
   pub channel : c < CHANNELS
-
-abbrev pub NewestPrefix : Scenario → List Event → Type 0
-NewestPrefix s h =
-    (p q c : ℕ) → IsLine s p q c →
-    IsPrefixOf (newest (records_of s h q p c)).taken (newest (records_of s h p q c)).accepted
 
 -- the record of a connection by its name, and the promise for each name at a line: what the one end
 -- took in a connection is a prefix of what the other end's sends were accepted in it

@@ -91,7 +91,7 @@ abbrev pub state_after : ScenarioPart → State → List Turn → State
 state_after s st [] = st
 state_after s st (t ∷ ts) = state_after s (after_turn s st t) ts
 
--- a step is owed at an end: a store of get, or a message request
+-- what an end owes by itself: a store of get, or a control flag of its handshake
 abbrev pub owes : End → Bool
 owes e =
     (is_connected e && nat_lt e.sides.local_get e.sides.ack.front)

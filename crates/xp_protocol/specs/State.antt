@@ -442,7 +442,7 @@ peer_of st q = peer_at st.peers q
 abbrev pub end_of : State → ℕ → ℕ → End
 end_of st q c = end_at st.peers q c
 
--- one end is replaced, and the reason to deactivate its partner
+-- one end of a peer's channels is replaced
 abbrev pub set_link : Peer → ℕ → End → Peer
 set_link p c x = record p { links = slice_set p.links c x }
 

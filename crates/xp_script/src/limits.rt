@@ -42,11 +42,6 @@ pub const SETTING_LIMIT: u64 = 1_024;
 /// The most scripts of one partition.
 pub const SCRIPT_LIMIT: usize = 64;
 
-/// The most partitions of a scenario that today's rules can run.
-pub const BUILT_PARTS: u8 = 8;
-/// The most scripts of one partition that today's rules can run.
-pub const BUILT_SCRIPTS: usize = 1;
-
 /// The budget of a scenario that sets none, in turns of each partition.
 pub fn default_budget(count: u8) -> u64
     ensures { result ≡ default_budget count }

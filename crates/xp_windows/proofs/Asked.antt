@@ -12,7 +12,8 @@ use Rattle.xp_protocol.specs.State.{State}
 use Rattle.xp_protocol.specs.Runs.{after_turn}
 use Rattle.xp_plan.specs.declared.errand.Errand.{Errand}
 use Rattle.xp_plan.specs.Plan.{plan_of}
-use Rattle.xp_windows.specs.Windows.{middle, SomeTurn, Steps, Throughout, IsUp}
+use Rattle.xp_windows.specs.Windows.{middle, SomeTurn, Steps, IsUp}
+use Rattle.xp_windows.proofs.Held.{Held}
 use Rattle.xp_windows.specs.Visited.{rule_by, rule_made}
 use Rattle.xp_windows.proofs.Places.{Turns, Run, run_next}
 
@@ -54,7 +55,7 @@ module _ (boot : ℕ) (C : State → Type 0) (E : State → Rule → Type 0) (s 
         (y.0, y.1, λ f. inl (inl (y.2 f)));
   }
 
-  pub done_in_time : (v : Visit Errand) (st : State) (ts : List Turn) → k < s.count → VISIT_TURNS * s.count + VISIT_TURNS < length ts → Turns boot s v st ts → Throughout C s st ts → Done st ts
+  pub done_in_time : (v : Visit Errand) (st : State) (ts : List Turn) → k < s.count → VISIT_TURNS * s.count + VISIT_TURNS < length ts → Turns boot s v st ts → Held C s st ts → Done st ts
   done_in_time v st ts low long x h =
       done (plan_of s) (middle s) (after_turn s) (rule_made s) s.count (λ _. Run boot C s) (λ v st t ts e. run_next boot C s st t ts) k e 0 (λ _. Unit {0}) (Unit {0}) tt (λ _ n used _. used ≡ 0) (λ _. Done) duty v st ts low some most (omega (arith, long))
       (record { ring = x.ring; places = x.places; follows = x.follows; more = record { runs = x.runs; up = x.up; holds = h } }) tt

@@ -27,7 +27,8 @@ use Rattle.xp_plan.specs.declared.errand.Errand.TheVariants as errands
 use Rattle.xp_plan.specs.EndSteps.{step_if, or_else}
 use Rattle.xp_plan.specs.PeerSteps.{clear_old, for_peer, boot_peers, boot_own, boot_after_read, boot_at}
 use Rattle.xp_plan.specs.Plan.{asked, ask_by, errands_of, agenda_by, plan_of, first_visit}
-use Rattle.xp_windows.specs.Windows.{middle, Throughout, IsBooting}
+use Rattle.xp_windows.specs.Windows.{middle, IsBooting}
+use Rattle.xp_windows.proofs.Held.{Held}
 use Rattle.xp_windows.specs.Visited.{rule_by, rule_made, visit_after, FollowsFrom}
 use Rattle.xp_windows.proofs.Places.{first_holds}
 use Rattle.xp_windows.proofs.Lives.{acts_life, acted_life, step_booting, on_turn, before_turn}
@@ -350,7 +351,7 @@ module _ (s : ScenarioPart) (boot : ℕ) where
     equal : (x y : ℕ) → x ≡ y → nat_eq x y ≡ true
     equal x y h = grind (arith, nat_tests)
 
-  pub boot_over : (v : Visit Errand) (st : State) (ts : List Turn) → IsRing v.ring → AtBoot v → ((x : Visit Errand) (y : State) → IsRing x.ring → IsRing (planned (plan_of s) x y).visit.ring) → RunsFrom s st ts → FollowsFrom s v st ts → Throughout (IsBooting boot) s st ts → length ts < boot_left s.part st
+  pub boot_over : (v : Visit Errand) (st : State) (ts : List Turn) → IsRing v.ring → AtBoot v → ((x : Visit Errand) (y : State) → IsRing x.ring → IsRing (planned (plan_of s) x y).visit.ring) → RunsFrom s st ts → FollowsFrom s v st ts → Held (IsBooting boot) s st ts → length ts < boot_left s.part st
   boot_over v st [] ring at on runs follows up = omega arith
   boot_over v st (t ∷ ts) ring at on runs follows up =
       let later = first_holds (IsBooting boot) s (after_turn s st t) ts up.2 in

@@ -3,9 +3,8 @@
 -- before a control flag is stored, and the flag goes out.
 use Rattle.std.proofs.Common.{◌≡◌, ℕ, ◌+◌, ◌-◌, ◌*◌, ◌<◌, ◌≤◌, Bool, true, false, ◌&&◌, List, ◌∷◌, length, refl, ap, sym, ◌∙◌, subst, arith, inl, inr, ◌⊎◌, Option, Some, None}
 use Rattle.std.specs.Prelude.{IsSome, is_some, not, nat_lt, if◌then◌else◌}
-use Rattle.std.proofs.lemmas.Bool.{and_parts, cases_lt}
+use Rattle.std.proofs.lemmas.Bool.{and_parts}
 use Rattle.std.proofs.lemmas.Bool.Decides.{nat_tests}
-use Rattle.std.proofs.lemmas.List.{get_or_past}
 use Rattle.xp_base.specs.declared.layout.TheConstants.{CHANNELS}
 use Rattle.xp_base.specs.declared.link.Kind.{Kind}
 use Rattle.xp_base.specs.declared.link.Kind.TheVariants.{CloseRequest, CloseReply, OpenRequest, OpenReply, OpenComplete, MsgRequest}
@@ -19,7 +18,6 @@ use Rattle.xp_rounds.specs.Visit.{Visit}
 use Rattle.xp_rounds.proofs.Sources.{Paced}
 use Rattle.xp_rounds.proofs.Duties.{Along, Duty, Moved, done}
 use Rattle.xp_rounds.proofs.Spots.{Spot}
-use Rattle.xp_protocol.specs.declared.contact.Contact.{Contact}
 use Rattle.xp_protocol.specs.declared.contact.Size.{Size}
 use Rattle.xp_protocol.specs.declared.rule.Argument.{Argument}
 use Rattle.xp_protocol.specs.declared.rule.Argument.TheVariants.{Request, Reply, Code}
@@ -29,7 +27,7 @@ use Rattle.xp_protocol.specs.declared.rule.Rule.{Rule}
 use Rattle.xp_protocol.specs.declared.rule.Rule.TheVariants.{Link}
 use Rattle.xp_protocol.specs.Effects.{Note, BySend, ByPull, Accepted, Sent, Heard, TakeRefused, Released, Drained}
 use Rattle.xp_protocol.specs.Parts.{fails_at}
-use Rattle.xp_protocol.specs.State.{State, Shake, End, idle_end, peer_of, end_of}
+use Rattle.xp_protocol.specs.State.{State, Shake, End, end_of}
 use Rattle.xp_protocol.specs.Linking.{hear, down_end, is_ended, kind_left, kind_got, with_argument, argument_stored, argument_read, release_notes, link_effect, kind_of, has_argument, request_of, owed, agreed}
 use Rattle.xp_protocol.specs.Rules.{mark_of, link_answered, place_for}
 use Rattle.xp_protocol.specs.Runs.{after_turn, is_failed}
@@ -37,7 +35,10 @@ use Rattle.xp_plan.specs.declared.errand.Errand.{Errand}
 use Rattle.xp_plan.specs.declared.errand.Errand.TheVariants as errands
 use Rattle.xp_plan.specs.EndSteps.{step_if, or_else, owes_store, store_at, message_at, argument_awaited, argument_step, control_owed, is_word, has_request, control_step, control_by, control_at, control_signal, signal_step, signal_at}
 use Rattle.xp_plan.specs.Plan.{plan_of}
-use Rattle.xp_windows.specs.Windows.{middle, At, IsRule, Steps, IsMet, IsAwaited, IsOwing, SomeTurn, Throughout}
+use Rattle.xp_windows.specs.Windows.{middle, At, IsRule, Steps, IsMet, MayLoad, IsStanding, SomeTurn}
+use Rattle.xp_windows.proofs.Owing.{IsOwing, no, both, not_true, unreasoned, none_replied, there, owed_on}
+use Rattle.xp_windows.proofs.Awaiting.{IsAwaited, awaited_on}
+use Rattle.xp_windows.proofs.Held.{Held}
 use Rattle.xp_windows.specs.Visited.{rule_made}
 use Rattle.xp_windows.proofs.Places.{Turns, first_holds, asks, fits_signal}
 use Rattle.xp_windows.proofs.Asked.{steps_by}
@@ -151,11 +152,11 @@ module _ (W : Shake → ℕ) (even : (x y : Shake) → Same x y → W y ≡ W x)
     heard = heard n;
     down = λ reason e i h. same_left n e (down_end reason e) (record { get_zero = refl; put_zero = refl; request_put = refl; reply_put = refl; code_put = refl }) (omega arith) refl h;
     over = λ e i h. absurd (ended e i h.1);
-    left = λ k e i h. lefts n k e h;
-    got = λ k e i h. gets n k e h;
+    left = λ k e i j h. lefts n k e h;
+    got = λ k e i j h. gets n k e h;
     dropped = λ e h. same_left n e (record e { shake = record e.shake { taken = without MsgRequest e.shake.taken } }) (record { get_zero = refl; put_zero = refl; request_put = refl; reply_put = refl; code_put = refl }) (omega arith) refl h;
     owing = λ e h. h;
-    sized = λ e size h. same_left n e (record e { shake = record e.shake { their_size = size } }) (record { get_zero = refl; put_zero = refl; request_put = refl; reply_put = refl; code_put = refl }) (omega arith) refl h;
+    sized = λ e size i j h. same_left n e (let y = kind_got OpenRequest e in record y { shake = record y.shake { their_size = size } }) (record { get_zero = refl; put_zero = refl; request_put = refl; reply_put = refl; code_put = refl }) (omega arith) refl h;
   }
 
   left_acts : (n : ℕ) → ActsKeep (Left n)
@@ -248,17 +249,6 @@ module _ (boot : ℕ) (C : State → Type 0) (s : ScenarioPart) (q c : ℕ) (x :
   abbrev Moves : ℕ → ℕ → State → Turn → List Turn → Type 0
   Moves n used st t ts = Moved (plan_of s) (middle s) (after_turn s) (rule_made s) s.count (Pacing boot C s q x) (pacing_next boot C s q x) (Unit {0}) Work P tt n used st t ts
 
-  -- an end in contact is there
-  there : (st : State) → IsSome (end_of st q c).shake.meet → c < length (peer_of st q).links
-  there st m = by (cases_lt c (length (peer_of st q).links)) where
-    none : (o : Option Contact) → o ≡ None → IsSome o → ⊥
-    none None e h = cc
-    none (Some y) e h = absurd (cc)
-
-    by : (c < length (peer_of st q).links) ⊎ (length (peer_of st q).links ≤ c) → c < length (peer_of st q).links
-    by (inl l) = l
-    by (inr l) = absurd (none (end_of st q c).shake.meet (ap (λ (e : End). e.shake.meet) (get_or_past (peer_of st q).links c idle_end l)) m)
-
   mid_left : (v : Visit Errand) (st : State) (t : Turn) (ts : List Turn) → IsAlong v st (t ∷ ts) → Left W even (More st) (end_of (middle s st t) q c)
   mid_left v st t ts a = acts_keep (Left W even (More st)) s q c (left_acts W even (More st)) st t.before (omega arith, unreplied st a.more.facts a.more.run.holds.0)
 
@@ -267,7 +257,7 @@ module _ (boot : ℕ) (C : State → Type 0) (s : ScenarioPart) (q c : ℕ) (x :
       → ((s₁ : ScenarioPart) (y : State) (k d : ℕ) → is_failed Failed ≡ fails_at s₁ (mark_of s₁ y (Link k d r)) → (link_answered (mark_of s₁ y (Link k d r)) 0 (end_of (middle s st t) q c) r Failed).reason ≡ None → ⊥)
       → ((place w : ℕ) → Left W even n (link_effect place (end_of (middle s st t) q c) r w).local) → Left W even n (end_of (after_turn s st t) q c)
   left_after v st t ts r n a e fails makes =
-      step_makes s q c (Left W even n) (left_acts W even n) st t r a.more.run.runs.0 (met (middle s st t) a.more.run.holds.1) (there (middle s st t) (contact (middle s st t) a.more.run.holds.1)) (met (after_turn s st t) (first_holds C s (after_turn s st t) ts a.more.run.holds.2)) e makes_by
+      step_makes s q c (Left W even n) (left_acts W even n) st t r a.more.run.runs.0 (met (middle s st t) a.more.run.holds.1) (there (middle s st t) q c (contact (middle s st t) a.more.run.holds.1)) (met (after_turn s st t) (first_holds C s (after_turn s st t) ts a.more.run.holds.2)) e makes_by
     where
       makes_by : (y : Answer) → is_failed y ≡ fails_at s (mark_of s (middle s st t) (Link q c r)) → (Does s q c (middle s st t) r y).reason ≡ None → Left W even n (Does s q c (middle s st t) r y).local
       makes_by (Word w) f g = makes (place_for s c) w
@@ -318,7 +308,7 @@ module _ (boot : ℕ) (C : State → Type 0) (s : ScenarioPart) (q c : ℕ) (x :
     asks = λ ph n used v st t ts a long few w. asks_now v st t ts n used a w;
   }
 
-  signalled : (v : Visit Errand) (st : State) (ts : List Turn) → VISIT_TURNS * s.count + VISIT_TURNS < length ts → Turns boot s v st ts → Paced (plan_of s) (whole s) v → Facts st → Tied s x.number q v st → Throughout C s st ts → SomeTurn Made s st ts
+  signalled : (v : Visit Errand) (st : State) (ts : List Turn) → VISIT_TURNS * s.count + VISIT_TURNS < length ts → Turns boot s v st ts → Paced (plan_of s) (whole s) v → Facts st → Tied s x.number q v st → Held C s st ts → SomeTurn Made s st ts
   signalled v st ts long y paced facts tied holds =
       done (plan_of s) (middle s) (after_turn s) (rule_made s) s.count (Pacing boot C s q x) (pacing_next boot C s q x) x.number (errands.Signal c) 0 (λ _. Unit {0}) (Unit {0}) tt Work P duty v st ts x.low (omega arith) (omega arith) (omega (arith, long))
       (record { ring = y.ring; places = y.places; follows = y.follows; more = record { run = record { runs = y.runs; up = y.up; holds = holds }; paced = paced; facts = facts; tied = tied } }) tt
@@ -333,10 +323,16 @@ module _ (boot : ℕ) (s : ScenarioPart) (q c : ℕ) (x : Spot s.part s.count q)
   abbrev Waits : State → Type 0
   Waits st = IsAwaited q c y st
 
-  pub arguments_loaded : (v : Visit Errand) (st : State) (ts : List Turn) → VISIT_TURNS * s.count + VISIT_TURNS < length ts → Turns boot s v st ts → Paced (plan_of s) (whole s) v → Facts st → Tied s x.number q v st → Throughout Waits s st ts → SomeTurn (Steps (At q c (IsRule (ReadArgument y))) s) s st ts
-  arguments_loaded v st ts long turns paced facts tied holds =
+  waited_for : (v : Visit Errand) (st : State) (ts : List Turn) → VISIT_TURNS * s.count + VISIT_TURNS < length ts → Turns boot s v st ts → Paced (plan_of s) (whole s) v → Facts st → Tied s x.number q v st → Held Waits s st ts → SomeTurn (Steps (At q c (IsRule (ReadArgument y))) s) s st ts
+  waited_for v st ts long turns paced facts tied holds =
       signalled boot Waits s q c x low (ReadArgument y) (λ z. 0) (λ a b e. refl) (λ z h. h.met) (λ z h. h.contact) (λ z f h. h.unreplied) (λ z h. let g = awaits y (end_of z q c).shake h.taken h.missing in omega (arith, g)) (λ a. omega arith)
       (λ z f h e. absurd (let g = awaits y (end_of z q c).shake h.taken h.missing in let i = (first_awaited (end_of z q c).shake None e).0 refl in omega (arith, g, i))) v st ts long turns paced facts tied holds
+
+  pub arguments_loaded : (v : Visit Errand) (st : State) (ts : List Turn) → VISIT_TURNS * s.count + VISIT_TURNS < length ts → Turns boot s v st ts → Paced (plan_of s) (whole s) v → Facts st → Tied s x.number q v st → Held (MayLoad q c) s st ts → has (kind_of y) (end_of st q c).shake.taken ≡ true → has_argument (kind_of y) (end_of st q c).shake ≡ false → SomeTurn (Steps (At q c (IsRule (ReadArgument y))) s) s st ts
+  arguments_loaded v st ts long turns paced facts tied holds taken missing = by (awaited_on s q c y st ts turns.runs holds (taken, missing)) where
+    by : SomeTurn (Steps (At q c (IsRule (ReadArgument y))) s) s st ts ⊎ Held Waits s st ts → SomeTurn (Steps (At q c (IsRule (ReadArgument y))) s) s st ts
+    by (inl h) = h
+    by (inr h) = waited_for v st ts long turns paced facts tied h
 
 -- what stands before a control flag, under this registration
 abbrev one : Bool → ℕ
@@ -412,8 +408,8 @@ module _ (size : Option Size) where
   closes_by true e f = record { rule = SetFlag CloseRequest; is = refl; fails = λ s st q c i j. absurd (cc); makes = inl refl }
   closes_by false e f = record { rule = StoreArgument Code; is = refl; fails = λ s st q c i j. absurd (cc); makes = inr (λ n place w l. let z = ap one f in stores_before CloseRequest e (argument_stored Code e) n (omega (arith, z)) (omega arith) refl l) }
 
-  makes_by : (k : Kind) (e : End) → (k ≡ MsgRequest → ⊥) → e.registration ≡ size → Makes k e
-  makes_by OpenRequest e n r = opens_by e.shake.get_zero e.shake.put_zero (has_request e) e r refl refl refl
+  makes_by : (k : Kind) (e : End) → (k ≡ MsgRequest → ⊥) → (k ≡ OpenRequest → e.registration ≡ size) → Makes k e
+  makes_by OpenRequest e n r = opens_by e.shake.get_zero e.shake.put_zero (has_request e) e (r refl) refl refl refl
   makes_by OpenReply e n r = replies_by e.shake.reply_put e refl
   makes_by CloseRequest e n r = closes_by e.shake.code_put e refl
   makes_by CloseReply e n r = record { rule = SetFlag CloseReply; is = refl; fails = λ s st q c i j. absurd (cc); makes = inl refl }
@@ -421,20 +417,6 @@ module _ (size : Option Size) where
   makes_by MsgRequest e n r = absurd (n refl)
 
 -- no two control flags are owed at once
-no : (b : Bool) → (b ≡ true → ⊥) → b ≡ false
-no true n = absurd (n refl)
-no false n = refl
-
-both : (a b : Bool) → (a && b) ≡ true → (a ≡ true) × (b ≡ true)
-both a b e = and_parts a b e
-
-not_true : (b : Bool) → not b ≡ true → b ≡ true → ⊥
-not_true true e f = cc
-not_true false e f = cc
-
-unreasoned : (e : End) → Sober e.shake → not (is_some e.shake.reason) ≡ true → (owed CloseRequest e ≡ true → ⊥) × (owed CloseReply e ≡ true → ⊥)
-unreasoned e h n = (λ o. not_true (is_some e.shake.reason) n (both (is_some e.shake.reason) _ o).0, λ o. not_true (is_some e.shake.reason) n (h.request (both e.shake.sent.close_request _ o).0))
-
 chosen : (e : End) (a b c d f : Bool) → owed CloseRequest e ≡ a → owed CloseReply e ≡ b → owed OpenRequest e ≡ c → owed OpenReply e ≡ d → owed OpenComplete e ≡ f → control_owed e ≡ (if a then Some CloseRequest else (if b then Some CloseReply else (if c then Some OpenRequest else (if d then Some OpenReply else step_if f OpenComplete))))
 chosen e a b c d f g h i j k = rw (g, h, i, j, k) refl
 
@@ -463,15 +445,6 @@ control_is OpenComplete e n h o =
     chosen e false false false false true (no (owed CloseRequest e) u.0) (no (owed CloseReply e) u.1) c d o
 control_is MsgRequest e n h o = absurd (n refl)
 
--- a close reply wasn't sent where any of them is owed
-none_replied : (k : Kind) (e : End) → (k ≡ MsgRequest → ⊥) → Sober e.shake → owed k e ≡ true → e.shake.sent.close_reply ≡ false
-none_replied CloseRequest e n h o = no e.shake.sent.close_reply (λ g. not_true e.shake.sent.close_request (both (is_some e.shake.reason) _ o).1 (h.reply g))
-none_replied CloseReply e n h o = no e.shake.sent.close_reply (λ g. not_true e.shake.sent.close_reply (both (not e.shake.sent.close_reply) _ (both e.shake.got.close_request _ (both e.shake.sent.close_request _ o).1).1).0 g)
-none_replied OpenRequest e n h o = no e.shake.sent.close_reply (λ g. not_true (is_some e.shake.reason) (both (not (is_some e.shake.reason)) _ (both (is_some e.registration) _ o).1).0 (h.request (h.reply g)))
-none_replied OpenReply e n h o = no e.shake.sent.close_reply (λ g. not_true (is_some e.shake.reason) (both (not (is_some e.shake.reason)) _ o).0 (h.request (h.reply g)))
-none_replied OpenComplete e n h o = no e.shake.sent.close_reply (λ g. not_true (is_some e.shake.reason) (both (not (is_some e.shake.reason)) _ o).0 (h.request (h.reply g)))
-none_replied MsgRequest e n h o = absurd (n refl)
-
 module _ (boot : ℕ) (s : ScenarioPart) (q c : ℕ) (x : Spot s.part s.count q) (low : c < CHANNELS) (k : Kind) (size : Option Size) (other : k ≡ MsgRequest → ⊥) where
   abbrev Owes : State → Type 0
   Owes st = IsOwing q c k size st
@@ -482,6 +455,12 @@ module _ (boot : ℕ) (s : ScenarioPart) (q c : ℕ) (x : Spot s.part s.count q)
       let z = makes_by size k e other h.registration in
       record { rule = z.rule; is = ap (λ (o : Option Kind). control_by o e) (control_is k e other (f.sober q c) h.owed) ∙ z.is; fails = z.fails; makes = z.makes }
 
-  pub flags_sent : (v : Visit Errand) (st : State) (ts : List Turn) → VISIT_TURNS * s.count + VISIT_TURNS < length ts → Turns boot s v st ts → Paced (plan_of s) (whole s) v → Facts st → Tied s x.number q v st → Throughout Owes s st ts → SomeTurn (Steps (At q c (IsRule (SetFlag k))) s) s st ts
-  flags_sent v st ts long turns paced facts tied holds =
+  owed_throughout : (v : Visit Errand) (st : State) (ts : List Turn) → VISIT_TURNS * s.count + VISIT_TURNS < length ts → Turns boot s v st ts → Paced (plan_of s) (whole s) v → Facts st → Tied s x.number q v st → Held Owes s st ts → SomeTurn (Steps (At q c (IsRule (SetFlag k))) s) s st ts
+  owed_throughout v st ts long turns paced facts tied holds =
       signalled boot Owes s q c x low (SetFlag k) (flag_left k size) (flag_even k size) (λ z h. h.met) (λ z h. h.contact) (λ z f h. none_replied k (end_of z q c) other (f.sober q c) h.owed) (λ z h. omega arith) (flag_few k size) (λ z f h e. owing z f h) v st ts long turns paced facts tied holds
+
+  pub flags_sent : (v : Visit Errand) (st : State) (ts : List Turn) → VISIT_TURNS * s.count + VISIT_TURNS < length ts → Turns boot s v st ts → Paced (plan_of s) (whole s) v → Facts st → Tied s x.number q v st → Held (IsStanding q c k size) s st ts → (k ≡ OpenRequest → is_some size ≡ true) → owed k (end_of st q c) ≡ true → SomeTurn (Steps (At q c (IsRule (SetFlag k))) s) s st ts
+  flags_sent v st ts long turns paced facts tied holds some owes = by (owed_on s q c k size some v st ts other turns.follows turns.runs paced facts holds owes) where
+    by : SomeTurn (Steps (At q c (IsRule (SetFlag k))) s) s st ts ⊎ Held Owes s st ts → SomeTurn (Steps (At q c (IsRule (SetFlag k))) s) s st ts
+    by (inl h) = h
+    by (inr h) = owed_throughout v st ts long turns paced facts tied h

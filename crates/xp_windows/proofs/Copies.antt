@@ -36,7 +36,8 @@ use Rattle.xp_plan.specs.declared.errand.Errand.TheVariants as errands
 use Rattle.xp_plan.specs.EndSteps.{step_if, is_polling, counters_at}
 use Rattle.xp_plan.specs.Plan.{plan_of, agenda_at}
 use Rattle.xp_plan.proofs.Visiting.{agenda_fits}
-use Rattle.xp_windows.specs.Windows.{middle, At, BeginsCopy, EndsCopy, IsUp, IsMet, IsOpen, SomeTurn, SomeThen, Throughout, Steps}
+use Rattle.xp_windows.specs.Windows.{middle, At, BeginsCopy, EndsCopy, IsUp, IsMet, IsOpen, SomeTurn, SomeThen, Steps}
+use Rattle.xp_windows.proofs.Held.{Held}
 use Rattle.xp_windows.specs.Visited.{rule_by, rule_made}
 use Rattle.xp_windows.proofs.Places.{Turns, Run, run_next, first_holds, asks, fits_counters}
 use Rattle.xp_windows.proofs.Asked.{steps_by}
@@ -116,10 +117,10 @@ copy_steps = record {
 }
 
 -- whether a copy goes on: acts leave it
-abbrev Goes : Bool → Sides → Type 0
+abbrev pub Goes : Bool → Sides → Type 0
 Goes b x = IsSome x.pull.counters
 
-goes_framed : Framed Goes
+pub goes_framed : Framed Goes
 goes_framed = record {
   owed = λ b x h. h;
   sent = λ b x y h. h;
@@ -130,7 +131,7 @@ goes_framed = record {
   released = λ b r x number h. h;
 }
 
-goes_acts : ActsKeep (While Goes)
+pub goes_acts : ActsKeep (While Goes)
 goes_acts = record { begun = begun_keeps Goes goes_framed; answered = answered_keeps Goes goes_framed; noticed = noticed_keeps Goes goes_framed }
 
 abbrev Rests : Bool → Sides → Type 0
@@ -150,7 +151,7 @@ rests_framed = record {
 rests_acts : ActsKeep (While Rests)
 rests_acts = record { begun = begun_keeps Rests rests_framed; answered = answered_keeps Rests rests_framed; noticed = noticed_keeps Rests rests_framed }
 
-none_going : (o : Option ℕ) → o ≡ None → IsSome o → ⊥
+pub none_going : (o : Option ℕ) → o ≡ None → IsSome o → ⊥
 none_going None e h = absurd (cc)
 none_going (Some g) e h = absurd (cc)
 
@@ -159,7 +160,7 @@ begun_by : (b : Bool) (e : End) (w : ℕ) → let f : Effect Pulling (List PullN
 begun_by true e w r = absurd (cc)
 begun_by false e w r = refl
 
-begun_going : (e : End) (o : Option ℕ) (w : ℕ) → o ≡ None → (by_pull e (counters_pulled (sender_counters e.sides) o e.sides.pull w)).reason ≡ None → Going (by_pull e (counters_pulled (sender_counters e.sides) o e.sides.pull w)).local
+pub begun_going : (e : End) (o : Option ℕ) (w : ℕ) → o ≡ None → (by_pull e (counters_pulled (sender_counters e.sides) o e.sides.pull w)).reason ≡ None → Going (by_pull e (counters_pulled (sender_counters e.sides) o e.sides.pull w)).local
 begun_going e (Some g) w i = absurd (cc)
 begun_going e None w i = begun_by (is_bad_counter (sender_counters e.sides) w) e w
 
@@ -174,7 +175,7 @@ over_still : (e : End) (o : Option ℕ) (w : ℕ) → IsSome o → Still (by_pul
 over_still e None w i = absurd (cc)
 over_still e (Some g) w i = over_by (is_bad_put (sender_counters e.sides) e.sides.pull w) e g w
 
-wants_by : (on : Bool) (o : Option ℕ) (b rest : Bool) → on ≡ true → IsSome o ⊎ ((b ≡ true) × (rest ≡ true)) → step_if (on && (is_some o || (b && rest))) (Pull ReadCounters) ≡ Some (Pull ReadCounters)
+pub wants_by : (on : Bool) (o : Option ℕ) (b rest : Bool) → on ≡ true → IsSome o ⊎ ((b ≡ true) × (rest ≡ true)) → step_if (on && (is_some o || (b && rest))) (Pull ReadCounters) ≡ Some (Pull ReadCounters)
 wants_by true (Some g) b rest m h = refl
 wants_by true None true true m (inr h) = refl
 wants_by true None true false m (inr h) = absurd (let x = h.1 in cc)
@@ -333,7 +334,7 @@ module _ (boot : ℕ) (s : ScenarioPart) (q c : ℕ) (x : Spot s.part s.count q)
     asks = λ ph n used v st t ts a long few w. (Some (Load q c), asked_next n used v st t ts a w, λ e. stepped n used v st t ts (omega (arith, long)) a w e);
   }
 
-  pub copies_made : (v : Visit Errand) (st : State) (ts : List Turn) → VISIT_TURNS * s.count + VISIT_TURNS + 1 < length ts → Turns boot s v st ts → Paced (plan_of s) (whole s) v → Throughout (IsOpen q c) s st ts → Owed (end_of st q c).sides.pull → Copied st ts
+  pub copies_made : (v : Visit Errand) (st : State) (ts : List Turn) → VISIT_TURNS * s.count + VISIT_TURNS + 1 < length ts → Turns boot s v st ts → Paced (plan_of s) (whole s) v → Held (IsOpen q c) s st ts → Owed (end_of st q c).sides.pull → Copied st ts
   copies_made v st ts long y paced okay h =
       done (plan_of s) (middle s) (after_turn s) (rule_made s) s.count Pacing pacing_next x.number (errands.Counters c) 1 Due (Unit {0}) tt (λ _ n used st. Left n used st) (λ _. Copied) duty v st ts x.low (omega arith) (omega arith) (omega (arith, long))
       (record { ring = y.ring; places = y.places; follows = y.follows; more = record { run = record { runs = y.runs; up = y.up; holds = okay }; paced = paced } }) (λ a b. h)

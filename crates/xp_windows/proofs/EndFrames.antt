@@ -41,8 +41,9 @@ use Rattle.xp_windows.specs.Visited.{rule_by, rule_made}
 use Rattle.xp_windows.proofs.Keeps.{ActsKeep, acts_keep}
 use Rattle.xp_windows.proofs.Settles.{SettleKeeps, hears_keep, change, all_settles}
 
--- what a fact of an end has to stand; N says what is known of a step at the end besides
-pub record EndKeeps (N : End → LinkRule → Type 0) (P : End → Type 0) : Type 0 where
+-- what a fact of an end has to stand within a contact; N says what is known of a step at the end
+-- besides
+pub record LinkKeeps (N : End → LinkRule → Type 0) (P : End → Type 0) : Type 0 where
   pub acts : ActsKeep P
   pub settling : SettleKeeps P
   pub taken : (ks : Kinds) (e : End) → P e → P (with_taken ks e)
@@ -56,13 +57,8 @@ pub record EndKeeps (N : End → LinkRule → Type 0) (P : End → Type 0) : Typ
   pub rings : (e : End) (x : Sending) → P e → P (record e { sides = record e.sides { send = x } })
   pub pulls : (m : PullRule) (w : ℕ) (e : End) → link_can e (Pull m) → N e (Pull m) → P e → P (record e { sides = record e.sides { pull = (pull_effect (sender_counters e.sides) e.sides.pull m w).local } })
   pub failed : (kind : CopyKind) (e : End) (m : LinkRule) → N e m → P e → P (copy_failed kind e)
-  pub leaves : (reason : Reason) (e : End) → P e → P (link_down reason e).local
-  pub finishes : (e : End) → P e → P (link_finished e).local
-  pub joins : (new : Bool) (m : Contact) (e : End) → P e → P (link_joined new m e).local
-  pub boots : (e : End) → P e → P (booted_end e)
-  pub idle : P idle_end
 
-module _ (N : End → LinkRule → Type 0) (P : End → Type 0) (z : EndKeeps N P) where
+module _ (N : End → LinkRule → Type 0) (P : End → Type 0) (z : LinkKeeps N P) where
   flags : (b : Bool) (ks : Kinds) (e : End) → P e → P (if b then and_then (just (with_taken ks e)) settled else just e).local
   flags true ks e h = all_settles P z.settling (with_taken ks e) (z.taken ks e h)
   flags false ks e h = h
@@ -97,6 +93,16 @@ module _ (N : End → LinkRule → Type 0) (P : End → Type 0) (z : EndKeeps N 
   link_keeps mark place e m (Word w) can n h = words place e m w can n h
   link_keeps mark place e m Failed can n h = fails mark e m n h
 
+-- and where contact is made or lost
+pub record EndKeeps (N : End → LinkRule → Type 0) (P : End → Type 0) : Type 0 where
+  pub links : LinkKeeps N P
+  pub leaves : (reason : Reason) (e : End) → P e → P (link_down reason e).local
+  pub finishes : (e : End) → P e → P (link_finished e).local
+  pub joins : (new : Bool) (m : Contact) (e : End) → P e → P (link_joined new m e).local
+  pub boots : (e : End) → P e → P (booted_end e)
+  pub idle : P idle_end
+
+module _ (N : End → LinkRule → Type 0) (P : End → Type 0) (z : EndKeeps N P) where
   -- a step for the partner
   module _ (c : ℕ) where
     abbrev In : Peer → Type 0
@@ -107,7 +113,7 @@ module _ (N : End → LinkRule → Type 0) (P : End → Type 0) (z : EndKeeps N 
 
     flags_leave : (b : Bool) (w : ℕ) (p : Peer) → In p → In (if b then record { local = p; reason = Some (BadFlags w); notes = λ d. [] } else flags_taken w p).local
     flags_leave true w p h = h
-    flags_leave false w p h = each_keeps (λ d e. flags_got (kinds_in w d) e) (with_flags w p) (λ e i. flags_keep (kinds_in w c) e i) h
+    flags_leave false w p h = each_keeps (λ d e. flags_got (kinds_in w d) e) (with_flags w p) (λ e i. flags_keep N P z.links (kinds_in w c) e i) h
 
     left_leave : (o : Option Reason) (p : Peer) → In p → In (area_left_for o p).local
     left_leave None p h = h
@@ -166,7 +172,7 @@ module _ (N : End → LinkRule → Type 0) (P : End → Type 0) (z : EndKeeps N 
       past st h l = cold
 
       pub acts_leave : (st : State) (list : List Act) → Ends st → Ends (after_acts s st list)
-      acts_leave st list h = acts_keep P s q c z.acts st list h
+      acts_leave st list h = acts_keep P s q c z.links.acts st list h
 
       pub rule_leaves : (st : State) (r : Rule) (a : Answer) → Can s st r → ((m : LinkRule) → r ≡ Link q c m → N (end_of st q c) m) → Ends st → Ends (after_answer s st r a)
       rule_leaves st (Link k d m) a can n h =
@@ -179,7 +185,7 @@ module _ (N : End → LinkRule → Type 0) (P : End → Type 0) (z : EndKeeps N 
           Ends' j = P (end_of st j c)
 
           new : q ≡ k → c ≡ d → P (link_answered (mark_of s st (Link k d m)) (place_for s d) (end_of st k d) m a).local
-          new e i = link_keeps (mark_of s st (Link k d m)) (place_for s d) (end_of st k d) m a can.1.1
+          new e i = link_keeps N P z.links (mark_of s st (Link k d m)) (place_for s d) (end_of st k d) m a can.1.1
               (subst (λ (j : ℕ). N (end_of st j d) m) e (subst (λ (j : ℕ). N (end_of st q j) m) i (n m (ap (λ (j : ℕ). Link j d m) (sym e) ∙ ap (λ (j : ℕ). Link q j m) (sym i)))))
               (subst (λ (j : ℕ). P (end_of st j d)) e (subst (λ (j : ℕ). P (end_of st q j)) i h))
       rule_leaves st (ForPeer k m) a can n h = at_peer In st.peers k _ q (λ e. peer_answers (here_of s st k) (mark_of s st (ForPeer k m)) (peer_of st k) m a (subst (λ (j : ℕ). P (end_of st j c)) e h)) h

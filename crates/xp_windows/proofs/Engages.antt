@@ -30,7 +30,8 @@ use Rattle.xp_plan.specs.declared.errand.Errand.TheVariants as errands
 use Rattle.xp_plan.specs.EndSteps.{step_if}
 use Rattle.xp_plan.specs.PeerSteps.{for_peer, is_open_to, engage_by, engage_at, has_waited}
 use Rattle.xp_plan.specs.Plan.{asked, plan_of}
-use Rattle.xp_windows.specs.Windows.{middle, Steps, IsFor, IsUp, IsOffered, SomeTurn, Throughout}
+use Rattle.xp_windows.specs.Windows.{middle, Steps, IsFor, IsUp, IsOffered, SomeTurn}
+use Rattle.xp_windows.proofs.Held.{Held}
 use Rattle.xp_windows.specs.Visited.{rule_made}
 use Rattle.xp_windows.proofs.Places.{Turns, first_holds, asks}
 use Rattle.xp_windows.proofs.Asked.{steps_by}
@@ -147,7 +148,7 @@ module _ (boot : ℕ) (s : ScenarioPart) (q : ℕ) (x : Spot s.part s.count q) w
     asks = λ ph n used v st t ts a free long few w. asks_by v st t ts n used a w;
   }
 
-  pub bits_set : (v : Visit Errand) (st : State) (ts : List Turn) → VISIT_TURNS * s.count + VISIT_TURNS < length ts → Turns boot s v st ts → Paced (plan_of s) (whole s) v → Facts st → Tied s x.number q v st → Throughout C s st ts → SomeTurn Set s st ts
+  pub bits_set : (v : Visit Errand) (st : State) (ts : List Turn) → VISIT_TURNS * s.count + VISIT_TURNS < length ts → Turns boot s v st ts → Paced (plan_of s) (whole s) v → Facts st → Tied s x.number q v st → Held C s st ts → SomeTurn Set s st ts
   bits_set v st ts long y paced facts tied h =
       done (plan_of s) (middle s) (after_turn s) (rule_made s) s.count (Pacing boot C s q x) (pacing_next boot C s q x) x.number errands.Engage 0 (λ _ _. Unit {0}) (λ _. Unit {0}) (Unit {0}) tt Work P duty v st ts x.low (omega arith) (omega arith) (omega (arith, long))
       (record { ring = y.ring; places = y.places; follows = y.follows; more = record { run = record { runs = y.runs; up = y.up; holds = h }; paced = paced; facts = facts; tied = tied } }) tt

@@ -10,7 +10,7 @@ use Rattle.xp_base.specs.declared.step.Answer.{Answer}
 use Rattle.xp_base.specs.declared.step.Answer.TheVariants.{Word, Failed}
 use Rattle.xp_base.specs.declared.step.CopyMark.{CopyMark}
 use Rattle.xp_base.specs.History.{Act, Begun, Answered, Noticed, NoticeKind, Marked, Turn}
-use Rattle.xp_base.specs.Kinds.{kinds_in}
+use Rattle.xp_base.specs.Kinds.{Kinds, kinds_in}
 use Rattle.xp_script.specs.declared.command.Command.{Command}
 use Rattle.xp_script.specs.declared.part.ScenarioPart.{ScenarioPart}
 use Rattle.xp_protocol.specs.declared.contact.Contact.{Contact}
@@ -22,7 +22,7 @@ use Rattle.xp_protocol.specs.declared.rule.Rule.{Rule}
 use Rattle.xp_protocol.specs.declared.rule.Rule.TheVariants.{Link, Peer as ForPeer, Own}
 use Rattle.xp_protocol.specs.Effects.{Effect, Note}
 use Rattle.xp_protocol.specs.State.{State, End, Peer, PeerGoing, Area, Old, Off, Ready, Leaving, Sides, cold_peer, idle_end, link_at, end_of, peer_of, is_connected, set_link}
-use Rattle.xp_protocol.specs.Linking.{flags_got}
+use Rattle.xp_protocol.specs.Linking.{flags_got, link_can}
 use Rattle.xp_protocol.specs.Peering.{Here, peer_can, peer_effect, peer_read, deactivation_heard, same_peer, is_bad_flags, is_left, is_flagged, with_reason, end_reason, booted_peer, contact_made}
 use Rattle.xp_protocol.specs.Rules.{Can, here_of, mark_of, numbered, link_answered, place_for, peer_answered, after_answer}
 use Rattle.xp_protocol.specs.Acts.{EndName, aim_by, named_end, aimed, aim_at, aim_of, with_aim, current, upcoming, end_begun, end_answered, end_noticed, command_begun, after_act, after_acts}
@@ -30,6 +30,8 @@ use Rattle.xp_protocol.specs.Runs.{May, MayMake, MayStep, after_ruled, after_ste
 use Rattle.xp_protocol.proofs.Slots.{at_slot, at_each, at_peer, at_end}
 use Rattle.xp_protocol.proofs.Frames.{wanted_at, cond_peer}
 use Rattle.xp_windows.specs.Windows.{middle, IsMet, At, Steps}
+use Rattle.xp_windows.specs.Visited.{rule_by, rule_made}
+use Rattle.xp_windows.proofs.Asked.{steps_by}
 use Rattle.xp_windows.proofs.Frame.{While, Framed, OwnSteps, begun_keeps, answered_keeps, noticed_keeps, flags_keep, link_keeps}
 
 -- a partner that nothing is known of isn't met
@@ -121,14 +123,15 @@ module _ (P : End → Type 0) (s : ScenarioPart) (q c : ℕ) where
   pub moment_keeps : (earlier : ℕ) (st : State) → IsMet q (moment s earlier st) → At' st → At' (moment s earlier st)
   moment_keeps earlier st met h = moment_by_keeps (restart_comes s earlier st && not (is_over st)) (stop_comes s earlier st && not (is_over st)) st met h
 
--- a fact that stands while an end is open: a step for the partner, and one of the partition
-module _ (R : Bool → Sides → Type 0) (f : Framed R) (s : ScenarioPart) (q c : ℕ) where
+-- a fact of an end whose partner stays met: what a step for the partner leaves of it, one of the end,
+-- and one of the partition. What else comes of the end's own step is A
+module _ (P : End → Type 0) (flags : (ks : Kinds) (e : End) → P e → P (flags_got ks e).local) (s : ScenarioPart) (q c : ℕ) where
   abbrev Stands : Peer → Type 0
-  Stands p = While R (link_at p.links c)
+  Stands p = P (link_at p.links c)
 
   flags_leave : (b : Bool) (y : Here) (p : Peer) (w : ℕ) → is_bad_flags w ≡ b → Stands p → c < length p.links → Stands (peer_effect y p TakeFlags w).local
   flags_leave true y p w e h low = rw e h
-  flags_leave false y p w e h low = rw e (at_each (While R) (λ d x. (flags_got (kinds_in w d) x).local) p.links c idle_end (flags_keep R f (kinds_in w c) (link_at p.links c) h) (λ l. absurd (omega (arith, l, low))))
+  flags_leave false y p w e h low = rw e (at_each P (λ d x. (flags_got (kinds_in w d) x).local) p.links c idle_end (flags (kinds_in w c) (link_at p.links c) h) (λ l. absurd (omega (arith, l, low))))
 
   second_leaves : (t : ℕ) (p : Peer) → IsSome p.contact → Stands p → Stands (if p.engage.second && (p.engage.shown && not (is_some p.contact)) then contact_made t p else same_peer p).local
   second_leaves t p met h = rw (no_new p.engage.second p.engage.shown p.contact met) h
@@ -163,56 +166,70 @@ module _ (R : Bool → Sides → Type 0) (f : Framed R) (s : ScenarioPart) (q c 
   heard_leaves true w p h = h
   heard_leaves false w p h = h
 
-  -- a step of the end does what is owed, or leaves it
-  module _ (E : End → LinkRule → Type 0) (own : OwnSteps R f E) where
+  module _ (A : Type 0) where
     abbrev Or : Peer → Type 0
-    Or p = ⊥ ⊎ Stands p
+    Or p = A ⊎ Stands p
 
-    pub rule_keeps : (st : State) (r : Rule) (a : Answer) → Can s st r → IsMet q st → is_connected (end_of st q c) ≡ true → While R (end_of st q c) → At q c E st r ⊎ While R (end_of (after_answer s st r a) q c)
-    rule_keeps st (Link k d m) a can met on h =
-        let A = At q c E st (Link k d m) in
+    -- what the own step makes of the end, where it is of this rule
+    abbrev Own' : State → Rule → Answer → Type 0
+    Own' st r a = (m : LinkRule) → r ≡ Link q c m → link_can (end_of st q c) m → P (end_of st q c) → A ⊎ P (link_answered (mark_of s st (Link q c m)) (place_for s c) (end_of st q c) m a).local
+
+    rule_keeps : (st : State) (r : Rule) (a : Answer) → Can s st r → IsMet q st → c < length (peer_of st q).links → Own' st r a → P (end_of st q c) → A ⊎ P (end_of (after_answer s st r a) q c)
+    rule_keeps st (Link k d m) a can met low own h =
         let mark = mark_of s st (Link k d m) in
         let g = link_answered mark (place_for s d) (end_of st k d) m a in
-        at_peer (λ (p : Peer). A ⊎ Stands p) st.peers k (with_reason (end_reason (peer_of st k).flags_seen g.reason) (set_link (numbered mark d (peer_of st k)) d g.local)) q
-        (λ e. at_slot (λ (x : End). A ⊎ While R x) (peer_of st k).links d c g.local idle_end (λ i. new e i) (inr (subst (λ (j : ℕ). While R (end_of st j c)) e h))) (inr h)
+        at_peer Or st.peers k (with_reason (end_reason (peer_of st k).flags_seen g.reason) (set_link (numbered mark d (peer_of st k)) d g.local)) q
+        (λ e. at_slot (λ (x : End). A ⊎ P x) (peer_of st k).links d c g.local idle_end (λ i. new e i) (inr (subst (λ (j : ℕ). P (end_of st j c)) e h))) (inr h)
       where
-        found : q ≡ k → c ≡ d → E (end_of st k d) m ⊎ While R (link_answered (mark_of s st (Link k d m)) (place_for s d) (end_of st k d) m a).local → At q c E st (Link k d m) ⊎ While R (link_answered (mark_of s st (Link k d m)) (place_for s d) (end_of st k d) m a).local
-        found e i (inl x) = inl (sym e, sym i, subst (λ (j : ℕ). E (end_of st j c) m) (sym e) (subst (λ (j : ℕ). E (end_of st k j) m) (sym i) x))
-        found e i (inr y) = inr y
+        New : ℕ → ℕ → Type 0
+        New j i = A ⊎ P (link_answered (mark_of s st (Link j i m)) (place_for s i) (end_of st j i) m a).local
 
-        new : q ≡ k → c ≡ d → At q c E st (Link k d m) ⊎ While R (link_answered (mark_of s st (Link k d m)) (place_for s d) (end_of st k d) m a).local
-        new e i = found e i (link_keeps R f E own s st k d m a can.1.1 (subst (λ (j : ℕ). is_connected (end_of st j d) ≡ true) e (subst (λ (j : ℕ). is_connected (end_of st q j) ≡ true) i on)) (moved (While R) s q c st k d e i h))
-    rule_keeps st (ForPeer k m) a can met on h =
-        at_peer Or st.peers k _ q (λ e. inr (peer_answers (here_of s st k) (mark_of s st (ForPeer k m)) (peer_of st k) m a can.1.1 (subst (λ (j : ℕ). IsSome (peer_of st j).contact) e met.contact) (subst (λ (j : ℕ). (peer_of st j).engage.reason ≡ None) e met.free) (subst (λ (j : ℕ). c < length (peer_of st j).links) e (among st q c on)) (subst (λ (j : ℕ). While R (end_of st j c)) e h))) (inr h)
-    rule_keeps st (Own ReadEngaged) (Word w) can met on h = at_each Or (λ j p. (peer_read w j p).local) st.peers q (cold_peer Old) (inr (read_leaves (peer_of st q) w met.ready h)) (λ l. absurd (past q st met l))
-    rule_keeps st (Own TakeDeactivation) (Word w) can met on h = at_each Or (λ j p. (deactivation_heard w j p).local) st.peers q (cold_peer Old) (inr (heard_leaves (is_some (peer_of st q).engage.echo && is_flagged w q) w (peer_of st q) h)) (λ l. absurd (past q st met l))
-    rule_keeps st (Own ReadStamp) (Word w) can met on h = inr h
-    rule_keeps st (Own ZeroMask) (Word w) can met on h = inr h
-    rule_keeps st (Own ZeroOffline) (Word w) can met on h = inr h
-    rule_keeps st (Own WriteStamp) (Word w) can met on h = inr h
-    rule_keeps st (Own StoreMask) (Word w) can met on h = inr h
-    rule_keeps st (Own TakeActivation) (Word w) can met on h = inr h
-    rule_keeps st (Own m) Failed can met on h = inr h
+        new : q ≡ k → c ≡ d → New k d
+        new e i =
+            let is : Link k d m ≡ Link q c m = ap (λ (j : ℕ). Link j d m) (sym e) ∙ ap (λ (j : ℕ). Link q j m) (sym i) in
+            let can_own = subst (λ (j : ℕ). link_can (end_of st j c) m) (sym e) (subst (λ (j : ℕ). link_can (end_of st k j) m) (sym i) can.1.1) in
+            subst (λ (j : ℕ). New j d) e (subst (λ (j : ℕ). New q j) i (own m is can_own h))
+    rule_keeps st (ForPeer k m) a can met low own h =
+        at_peer Or st.peers k _ q (λ e. inr (peer_answers (here_of s st k) (mark_of s st (ForPeer k m)) (peer_of st k) m a can.1.1 (subst (λ (j : ℕ). IsSome (peer_of st j).contact) e met.contact) (subst (λ (j : ℕ). (peer_of st j).engage.reason ≡ None) e met.free) (subst (λ (j : ℕ). c < length (peer_of st j).links) e low) (subst (λ (j : ℕ). P (end_of st j c)) e h))) (inr h)
+    rule_keeps st (Own ReadEngaged) (Word w) can met low own h = at_each Or (λ j p. (peer_read w j p).local) st.peers q (cold_peer Old) (inr (read_leaves (peer_of st q) w met.ready h)) (λ l. absurd (past q st met l))
+    rule_keeps st (Own TakeDeactivation) (Word w) can met low own h = at_each Or (λ j p. (deactivation_heard w j p).local) st.peers q (cold_peer Old) (inr (heard_leaves (is_some (peer_of st q).engage.echo && is_flagged w q) w (peer_of st q) h)) (λ l. absurd (past q st met l))
+    rule_keeps st (Own ReadStamp) (Word w) can met low own h = inr h
+    rule_keeps st (Own ZeroMask) (Word w) can met low own h = inr h
+    rule_keeps st (Own ZeroOffline) (Word w) can met low own h = inr h
+    rule_keeps st (Own WriteStamp) (Word w) can met low own h = inr h
+    rule_keeps st (Own StoreMask) (Word w) can met low own h = inr h
+    rule_keeps st (Own TakeActivation) (Word w) can met low own h = inr h
+    rule_keeps st (Own m) Failed can met low own h = inr h
 
-    acts : ActsKeep (While R)
-    acts = record { begun = begun_keeps R f; answered = answered_keeps R f; noticed = noticed_keeps R f }
+    -- a turn leaves it, or else comes of its step
+    pub met_keeps : ActsKeep P → (st : State) (t : Turn) → May s st t → IsMet q (middle s st t) → c < length (peer_of (middle s st t) q).links → IsMet q (after_turn s st t) → ((r : Rule) (a : Answer) → rule_made s (middle s st t) t ≡ Some r → Own' (middle s st t) r a) → P (end_of st q c) → A ⊎ P (end_of (after_turn s st t) q c)
+    met_keeps acts st t may met low later own h = by t.made refl may.made where
+      here : P (end_of (middle s st t) q c)
+      here = acts_keep P s q c acts st t.before h
 
-    -- a turn does such a step, or leaves it
-    pub turn_keeps : (st : State) (t : Turn) → May s st t → IsMet q (middle s st t) → is_connected (end_of (middle s st t) q c) ≡ true → IsMet q (after_turn s st t) → While R (end_of st q c) → Steps (At q c E) s st t ⊎ While R (end_of (after_turn s st t) q c)
-    turn_keeps st t may met on later h = by t.made refl may.made where
-      here : While R (end_of (middle s st t) q c)
-      here = acts_keep (While R) s q c acts st t.before h
+      ends : P (end_of (after_step s (middle s st t) t.made) q c) → P (end_of (after_turn s st t) q c)
+      ends x = moment_keeps P s q c st.clock.puts (turn_counted (acted s st t)) later (acts_keep P s q c acts (after_step s (middle s st t) t.made) t.after x)
 
-      ends : While R (end_of (after_step s (middle s st t) t.made) q c) → While R (end_of (after_turn s st t) q c)
-      ends x = moment_keeps (While R) s q c st.clock.puts (turn_counted (acted s st t)) later (acts_keep (While R) s q c acts (after_step s (middle s st t) t.made) t.after x)
+      stepped : (o : Option Marked) → t.made ≡ o → P (end_of (after_step s (middle s st t) o) q c) → P (end_of (after_turn s st t) q c)
+      stepped o e x = ends (subst (λ (z : Option Marked). P (end_of (after_step s (middle s st t) z) q c)) (sym e) x)
 
-      stepped : (o : Option Marked) → t.made ≡ o → While R (end_of (after_step s (middle s st t) o) q c) → While R (end_of (after_turn s st t) q c)
-      stepped o e x = ends (subst (λ (z : Option Marked). While R (end_of (after_step s (middle s st t) z) q c)) (sym e) x)
+      found : (x : Marked) → t.made ≡ Some x → (m : MayStep s (middle s st t) x) → A ⊎ P (end_of (after_answer s (middle s st t) m.rule x.step.answer) q c) → A ⊎ P (end_of (after_turn s st t) q c)
+      found x e m (inl y) = inl y
+      found x e m (inr y) = inr (stepped (Some x) e (subst (λ (o : Option Rule). P (end_of (after_ruled s (middle s st t) o x.step.answer) q c)) (sym m.decoded) y))
 
-      found : (x : Marked) → t.made ≡ Some x → (m : MayStep s (middle s st t) x) → At q c E (middle s st t) m.rule ⊎ While R (end_of (after_answer s (middle s st t) m.rule x.step.answer) q c) → Steps (At q c E) s st t ⊎ While R (end_of (after_turn s st t) q c)
-      found x e m (inl y) = inl (record { step = x; made = e; rule = m.rule; decoded = m.decoded; is = y })
-      found x e m (inr y) = inr (stepped (Some x) e (subst (λ (o : Option Rule). While R (end_of (after_ruled s (middle s st t) o x.step.answer) q c)) (sym m.decoded) y))
-
-      by : (o : Option Marked) → t.made ≡ o → MayMake s (middle s st t) o → Steps (At q c E) s st t ⊎ While R (end_of (after_turn s st t) q c)
+      by : (o : Option Marked) → t.made ≡ o → MayMake s (middle s st t) o → A ⊎ P (end_of (after_turn s st t) q c)
       by None e m = inr (stepped None e here)
-      by (Some x) e m = found x e m (rule_keeps (middle s st t) m.rule x.step.answer m.can met on here)
+      by (Some x) e m = found x e m (rule_keeps (middle s st t) m.rule x.step.answer m.can met low (own m.rule x.step.answer (ap (λ (o : Option Marked). rule_by s (middle s st t) o) e ∙ m.decoded)) here)
+
+-- a fact that stands while an end is open: its own step does what is owed, or leaves it
+module _ (R : Bool → Sides → Type 0) (f : Framed R) (s : ScenarioPart) (q c : ℕ) (E : End → LinkRule → Type 0) (own : OwnSteps R f E) where
+  acts : ActsKeep (While R)
+  acts = record { begun = begun_keeps R f; answered = answered_keeps R f; noticed = noticed_keeps R f }
+
+  pub turn_keeps : (st : State) (t : Turn) → May s st t → IsMet q (middle s st t) → is_connected (end_of (middle s st t) q c) ≡ true → IsMet q (after_turn s st t) → While R (end_of st q c) → Steps (At q c E) s st t ⊎ While R (end_of (after_turn s st t) q c)
+  turn_keeps st t may met on later h = met_keeps (While R) (flags_keep R f) s q c (Steps (At q c E) s st t) acts st t may met (among (middle s st t) q c on) later steps h where
+    steps : (r : Rule) (a : Answer) → rule_made s (middle s st t) t ≡ Some r → (m : LinkRule) → r ≡ Link q c m → link_can (end_of (middle s st t) q c) m → While R (end_of (middle s st t) q c) → Steps (At q c E) s st t ⊎ While R (link_answered (mark_of s (middle s st t) (Link q c m)) (place_for s c) (end_of (middle s st t) q c) m a).local
+    steps r a e m is can g = by (link_keeps R f E own s (middle s st t) q c m a can on g) where
+      by : E (end_of (middle s st t) q c) m ⊎ While R (link_answered (mark_of s (middle s st t) (Link q c m)) (place_for s c) (end_of (middle s st t) q c) m a).local → Steps (At q c E) s st t ⊎ While R (link_answered (mark_of s (middle s st t) (Link q c m)) (place_for s c) (end_of (middle s st t) q c) m a).local
+      by (inl x) = inl (steps_by (At q c E) s st t (Link q c m) (e ∙ ap (λ (y : Rule). Some y) is) (refl, refl, x))
+      by (inr x) = inr x

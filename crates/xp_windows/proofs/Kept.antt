@@ -12,7 +12,8 @@ use Rattle.xp_protocol.specs.State.{State, End, Sides, end_of}
 use Rattle.xp_protocol.specs.Runs.{after_turn}
 use Rattle.xp_plan.specs.declared.errand.Errand.{Errand}
 use Rattle.xp_plan.specs.Plan.{plan_of}
-use Rattle.xp_windows.specs.Windows.{middle, At, IsUp, IsMet, IsOpen, SomeTurn, Throughout, Steps}
+use Rattle.xp_windows.specs.Windows.{middle, At, IsUp, IsMet, IsOpen, SomeTurn, Steps}
+use Rattle.xp_windows.proofs.Held.{Held}
 use Rattle.xp_windows.specs.Visited.{rule_made}
 use Rattle.xp_windows.proofs.Places.{Turns, Run, run_next, first_holds}
 use Rattle.xp_windows.proofs.Asked.{IsAsked, steps_by}
@@ -58,7 +59,7 @@ module _ (boot : ℕ) (C : State → Type 0) (R : Bool → Sides → Type 0) (f 
         (y.0, y.1, λ i. inl (inl (y.2 i)));
   }
 
-  pub kept_in_time : (v : Visit Errand) (st : State) (ts : List Turn) → k < s.count → VISIT_TURNS * s.count + VISIT_TURNS < length ts → Turns boot s v st ts → Throughout C s st ts → R (end_of st q c).shake.owes_message (end_of st q c).sides → Done st ts
+  pub kept_in_time : (v : Visit Errand) (st : State) (ts : List Turn) → k < s.count → VISIT_TURNS * s.count + VISIT_TURNS < length ts → Turns boot s v st ts → Held C s st ts → R (end_of st q c).shake.owes_message (end_of st q c).sides → Done st ts
   kept_in_time v st ts low long x h r =
       done (plan_of s) (middle s) (after_turn s) (rule_made s) s.count (λ _. Run boot C s) (λ v st t ts e. run_next boot C s st t ts) k e 0 Due (Unit {0}) tt (λ _ n used st. (used ≡ 0) × Due st) (λ _. Done) duty v st ts low some most (omega (arith, long))
       (record { ring = x.ring; places = x.places; follows = x.follows; more = record { runs = x.runs; up = x.up; holds = h } }) (λ a b. r)

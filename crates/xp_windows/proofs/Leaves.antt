@@ -37,7 +37,8 @@ use Rattle.xp_plan.specs.declared.errand.Errand.TheVariants as errands
 use Rattle.xp_plan.specs.EndSteps.{step_if}
 use Rattle.xp_plan.specs.PeerSteps.{for_peer, leave_by, leave_at}
 use Rattle.xp_plan.specs.Plan.{asked, is_joined, errands_of, agenda_by, agenda_at, plan_of}
-use Rattle.xp_windows.specs.Windows.{middle, IsFor, IsUp, SomeTurn, Steps, Throughout}
+use Rattle.xp_windows.specs.Windows.{middle, IsFor, IsUp, SomeTurn, Steps}
+use Rattle.xp_windows.proofs.Held.{Held}
 use Rattle.xp_windows.specs.Visited.{rule_made}
 use Rattle.xp_windows.proofs.Places.{Turns, Run, run_next, first_holds, asks}
 use Rattle.xp_windows.proofs.Asked.{steps_by}
@@ -173,7 +174,7 @@ module _ (Q : Engage → Type 0) (goal : PeerRule) (z : Stays Q goal) (boot : �
       asks = λ ph n used v st t ts a long few h. (Some (ForPeer q goal), asked_now used (middle s st t) a.more.up.1 (acts_stay st t.before h), λ e. inl (inl (steps_by (IsFor q goal) s st t (ForPeer q goal) e refl)));
     }
 
-    any : (us : List Turn) (y : State) → Throughout Any s y us
+    any : (us : List Turn) (y : State) → Held Any s y us
     any [] y = tt
     any (t ∷ us) y = (tt, tt, any us (after_turn s y t))
 

@@ -1,3 +1,4 @@
+pub mod Held
 pub mod Places
 pub mod Asked
 pub mod Throughout
@@ -28,4 +29,6 @@ pub mod Stored
 pub mod Opens
 pub mod Sober
 pub mod Settles
+pub mod Owing
+pub mod Awaiting
 pub mod Controls

@@ -39,7 +39,8 @@ use Rattle.xp_plan.specs.declared.errand.Errand.TheVariants as errands
 use Rattle.xp_plan.specs.EndSteps.{step_if}
 use Rattle.xp_plan.specs.PeerSteps.{for_peer}
 use Rattle.xp_plan.specs.Plan.{asked, is_joined, errands_of, agenda_by, agenda_at, plan_of, first_visit}
-use Rattle.xp_windows.specs.Windows.{middle, Changes, BeginsLook, EndsLook, IsUp, SomeTurn, SomeFrom, Throughout}
+use Rattle.xp_windows.specs.Windows.{middle, Changes, BeginsLook, EndsLook, IsUp, SomeTurn, SomeFrom}
+use Rattle.xp_windows.proofs.Held.{Held}
 use Rattle.xp_windows.specs.Visited.{rule_by, rule_made, visit_after}
 use Rattle.xp_windows.proofs.Places.{Turns, first_holds, asks}
 use Rattle.xp_windows.proofs.Copies.{whole}
@@ -311,7 +312,7 @@ module _ (s : ScenarioPart) (q : ℕ) (x : Spot s.part s.count q) where
   module _ (boot : ℕ) where
     record Pacing (v : Visit Errand) (st : State) (ts : List Turn) : Type 0 where
       pub runs : RunsFrom s st ts
-      pub up : Throughout (IsUp boot) s st ts
+      pub up : Held (IsUp boot) s st ts
       pub paced : Paced (plan_of s) (whole s) v
       pub tied : Tied s x.number q v st
 

@@ -31,7 +31,8 @@ use Rattle.xp_plan.specs.declared.errand.Errand.{Errand}
 use Rattle.xp_plan.specs.declared.errand.Errand.TheVariants as errands
 use Rattle.xp_plan.specs.EndSteps.{step_if}
 use Rattle.xp_plan.specs.Plan.{asked, is_joined, plan_of}
-use Rattle.xp_windows.specs.Windows.{middle, Steps, IsFor, IsUp, SomeTurn, Throughout}
+use Rattle.xp_windows.specs.Windows.{middle, Steps, IsFor, IsUp, SomeTurn}
+use Rattle.xp_windows.proofs.Held.{Held}
 use Rattle.xp_windows.specs.Visited.{rule_by, rule_made}
 use Rattle.xp_windows.proofs.Places.{Turns, first_holds, asks}
 use Rattle.xp_windows.proofs.Asked.{steps_by}
@@ -411,7 +412,7 @@ module _ (boot : ℕ) (s : ScenarioPart) (q : ℕ) (x : Spot s.part s.count q) w
     asks = λ ph n used v st t ts a free long few w. asks_now v st t ts n used a w;
   }
 
-  pub areas_opened : (v : Visit Errand) (st : State) (ts : List Turn) → VISIT_TURNS * s.count + VISIT_TURNS < length ts → Turns boot s v st ts → Paced (plan_of s) (fit s) v → Facts st → Tied s x.number q v st → Throughout C s st ts → (peer_of st q).engage.area ≡ Off → (peer_of st q).engage.count < 4294967295 → SomeTurn Opened s st ts
+  pub areas_opened : (v : Visit Errand) (st : State) (ts : List Turn) → VISIT_TURNS * s.count + VISIT_TURNS < length ts → Turns boot s v st ts → Paced (plan_of s) (fit s) v → Facts st → Tied s x.number q v st → Held C s st ts → (peer_of st q).engage.area ≡ Off → (peer_of st q).engage.count < 4294967295 → SomeTurn Opened s st ts
   areas_opened v st ts long y paced facts tied holds off few =
       done (plan_of s) (middle s) (after_turn s) (rule_made s) s.count (Pacing boot C s q x) (pacing_next boot C s q x) x.number errands.Prepare 0 (λ _ _. Unit {0}) Due (Unit {0}) tt Work P duty v st ts x.low (omega arith) (omega arith) (omega (arith, long))
       (record { ring = y.ring; places = y.places; follows = y.follows; more = record { run = record { runs = y.runs; up = y.up; holds = holds }; paced = paced; facts = facts; tied = tied } }) (off, few)

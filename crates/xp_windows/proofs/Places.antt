@@ -22,10 +22,11 @@ use Rattle.xp_plan.specs.declared.errand.Errand.{Errand}
 use Rattle.xp_plan.specs.declared.errand.Errand.TheVariants as errands
 use Rattle.xp_plan.specs.PeerSteps.{is_open_to}
 use Rattle.xp_plan.specs.Plan.{asked, ask_own, ask_partner, ask_by, is_joined, errands_of, agenda_by, agenda_at, plan_of, first_visit}
-use Rattle.xp_windows.specs.Windows.{middle, Throughout, IsUp, IsMet}
+use Rattle.xp_windows.specs.Windows.{middle, IsUp, IsMet}
+use Rattle.xp_windows.proofs.Held.{Held}
 use Rattle.xp_windows.specs.Visited.{rule_made, visit_after, FollowsFrom}
 
-pub first_holds : (C : State → Type 0) (s : ScenarioPart) (st : State) (ts : List Turn) → Throughout C s st ts → C st
+pub first_holds : (C : State → Type 0) (s : ScenarioPart) (st : State) (ts : List Turn) → Held C s st ts → C st
 first_holds C s st [] h = h
 first_holds C s st (t ∷ ts) h = h.0
 
@@ -35,7 +36,7 @@ same_boot s v boot st t e f = ap (λ (b : Bool). cond b (planned (plan_of s) v (
   equal : (a b : ℕ) → a ≡ b → nat_eq a b ≡ true
   equal a b h = grind (arith, nat_tests)
 
-pub follows_plan : (s : ScenarioPart) (v : Visit Errand) (boot : ℕ) (st : State) (ts : List Turn) → Throughout (IsUp boot) s st ts → FollowsFrom s v st ts → Follows (plan_of s) (middle s) (after_turn s) (rule_made s) v st ts
+pub follows_plan : (s : ScenarioPart) (v : Visit Errand) (boot : ℕ) (st : State) (ts : List Turn) → Held (IsUp boot) s st ts → FollowsFrom s v st ts → Follows (plan_of s) (middle s) (after_turn s) (rule_made s) v st ts
 follows_plan s v boot st [] up h = tt
 follows_plan s v boot st (t ∷ ts) up h =
     let later = first_holds (IsUp boot) s (after_turn s st t) ts up.2 in
@@ -48,13 +49,13 @@ pub record Turns (boot : ℕ) (s : ScenarioPart) (v : Visit Errand) (st : State)
   pub places : v.ring.count ≡ s.count
   pub follows : Follows (plan_of s) (middle s) (after_turn s) (rule_made s) v st ts
   pub runs : RunsFrom s st ts
-  pub up : Throughout (IsUp boot) s st ts
+  pub up : Held (IsUp boot) s st ts
 
 -- turns of one boot throughout which something holds
 pub record Run (boot : ℕ) (C : State → Type 0) (s : ScenarioPart) (st : State) (ts : List Turn) : Type 0 where
   pub runs : RunsFrom s st ts
-  pub up : Throughout (IsUp boot) s st ts
-  pub holds : Throughout C s st ts
+  pub up : Held (IsUp boot) s st ts
+  pub holds : Held C s st ts
 
 pub run_next : (boot : ℕ) (C : State → Type 0) (s : ScenarioPart) (st : State) (t : Turn) (ts : List Turn) → Run boot C s st (t ∷ ts) → Run boot C s (after_turn s st t) ts
 run_next boot C s st t ts r = record { runs = r.runs.1; up = r.up.2; holds = r.holds.2 }

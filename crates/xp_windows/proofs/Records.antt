@@ -33,7 +33,8 @@ use Rattle.xp_plan.specs.declared.errand.Errand.TheVariants as errands
 use Rattle.xp_plan.specs.EndSteps.{step_if}
 use Rattle.xp_plan.specs.PeerSteps.{for_peer, is_open_to, is_activating, may_read, record_at}
 use Rattle.xp_plan.specs.Plan.{asked, plan_of}
-use Rattle.xp_windows.specs.Windows.{middle, Changes, Steps, IsFor, IsUp, IsActivating, BeginsRecord, EndsRecord, SomeTurn, SomeFrom, Throughout}
+use Rattle.xp_windows.specs.Windows.{middle, Changes, Steps, IsFor, IsUp, IsActivating, BeginsRecord, EndsRecord, SomeTurn, SomeFrom}
+use Rattle.xp_windows.proofs.Held.{Held}
 use Rattle.xp_windows.specs.Visited.{rule_by, rule_made}
 use Rattle.xp_windows.proofs.Places.{Turns, first_holds, asks}
 use Rattle.xp_windows.proofs.Copies.{whole}
@@ -372,7 +373,7 @@ module _ (boot : ℕ) (s : ScenarioPart) (q : ℕ) (x : Spot s.part s.count q) w
     asks = λ ph n used v st t ts a free long few w. asks_now ph n used v st t ts a w;
   }
 
-  pub records_read : (v : Visit Errand) (st : State) (ts : List Turn) → VISIT_TURNS * s.count + VISIT_TURNS < length ts → Turns boot s v st ts → Paced (plan_of s) (whole s) v → Facts st → Tied s x.number q v st → Throughout C s st ts → SomeFrom Begun Over s st ts
+  pub records_read : (v : Visit Errand) (st : State) (ts : List Turn) → VISIT_TURNS * s.count + VISIT_TURNS < length ts → Turns boot s v st ts → Paced (plan_of s) (whole s) v → Facts st → Tied s x.number q v st → Held C s st ts → SomeFrom Begun Over s st ts
   records_read v st ts long y paced facts tied holds = by (peer_of st q).engage.back_off refl where
     by : (b : Bool) → (peer_of st q).engage.back_off ≡ b → SomeFrom Begun Over s st ts
     by true e = absurd (not_activating boot s q x v st ts long y paced facts tied holds e)

@@ -35,7 +35,8 @@ use Rattle.xp_plan.specs.EndSteps.{step_if}
 use Rattle.xp_plan.specs.PeerSteps.{for_peer, is_open_to, echo_step, is_backing_off, answer_at, leave_bit, leave_by, leave_at}
 use Rattle.xp_plan.specs.declared.errand.Agenda.TheVariants as agendas
 use Rattle.xp_plan.specs.Plan.{asked, errands_of, plan_of}
-use Rattle.xp_windows.specs.Windows.{middle, Steps, IsFor, IsUp, IsOpenTo, IsActivating, SomeTurn, Throughout}
+use Rattle.xp_windows.specs.Windows.{middle, Steps, IsFor, IsUp, IsOpenTo, IsActivating, SomeTurn}
+use Rattle.xp_windows.proofs.Held.{Held}
 use Rattle.xp_windows.specs.Visited.{rule_by, rule_made}
 use Rattle.xp_windows.proofs.Places.{Turns, first_holds, asks}
 use Rattle.xp_windows.proofs.Asked.{steps_by}
@@ -214,7 +215,7 @@ module _ (boot : ℕ) (C : State → Type 0) (s : ScenarioPart) (q : ℕ) (x : S
       asks = λ ph n used v st t ts a free long few u. subst (λ (j : ℕ). (o : Option Rule) × ((plan_of s).ask x.number w.errand j (middle s st t) ≡ Some o) × (rule_made s (middle s st t) t ≡ o → SomeTurn Done s st (t ∷ ts) ⊎ Moved (plan_of s) (middle s) (after_turn s) (rule_made s) s.count (Pacing boot C s q x) (pacing_next boot C s q x) (Unit {0}) (λ _ n used y. (used ≡ 0) × P (peer_of y q)) (λ _ y us. SomeTurn Done s y us) tt n j st t ts)) (sym u.0) (asks_now v st t ts n a (free u.0) u.1);
     }
 
-    answered : (v : Visit Errand) (st : State) (ts : List Turn) → VISIT_TURNS * s.count + VISIT_TURNS < length ts → Turns boot s v st ts → Paced (plan_of s) (whole s) v → Facts st → Tied s x.number q v st → Throughout C s st ts → P (peer_of st q) → SomeTurn Done s st ts
+    answered : (v : Visit Errand) (st : State) (ts : List Turn) → VISIT_TURNS * s.count + VISIT_TURNS < length ts → Turns boot s v st ts → Paced (plan_of s) (whole s) v → Facts st → Tied s x.number q v st → Held C s st ts → P (peer_of st q) → SomeTurn Done s st ts
     answered v st ts long y paced facts tied holds h =
         done (plan_of s) (middle s) (after_turn s) (rule_made s) s.count (Pacing boot C s q x) (pacing_next boot C s q x) x.number w.errand 0 Free (λ y. P (peer_of y q)) (Unit {0}) tt (λ _ n used y. (used ≡ 0) × P (peer_of y q)) (λ _ y us. SomeTurn Done s y us) duty v st ts x.low w.some w.most (let most = w.most in omega (arith, long))
         (record { ring = y.ring; places = y.places; follows = y.follows; more = record { run = record { runs = y.runs; up = y.up; holds = holds }; paced = paced; facts = facts; tied = tied } }) h
@@ -270,7 +271,7 @@ module _ (boot : ℕ) (s : ScenarioPart) (q : ℕ) (x : Spot s.part s.count q) w
   abbrev Open : State → Type 0
   Open st = IsOpenTo q st
 
-  pub seconds_stored : (v : Visit Errand) (st : State) (ts : List Turn) → VISIT_TURNS * s.count + VISIT_TURNS < length ts → Turns boot s v st ts → Paced (plan_of s) (whole s) v → Facts st → Tied s x.number q v st → Throughout Open s st ts → IsSome (peer_of st q).engage.echo → (peer_of st q).engage.second ≡ false → SomeTurn (Steps (IsFor q StoreSecond) s) s st ts
+  pub seconds_stored : (v : Visit Errand) (st : State) (ts : List Turn) → VISIT_TURNS * s.count + VISIT_TURNS < length ts → Turns boot s v st ts → Paced (plan_of s) (whole s) v → Facts st → Tied s x.number q v st → Held Open s st ts → IsSome (peer_of st q).engage.echo → (peer_of st q).engage.second ≡ false → SomeTurn (Steps (IsFor q StoreSecond) s) s st ts
   seconds_stored v st ts long y paced facts tied holds some none =
       answered boot Open s q x StoreSecond Unreasoned (λ p. Half p.engage) half_awaits (Steps (IsFor q StoreSecond) s) (answering s q)
       (λ v st t ts a h m e. a.more.run.holds.1.free)
@@ -304,7 +305,7 @@ module _ (boot : ℕ) (C : State → Type 0) (s : ScenarioPart) (q : ℕ) (x : S
   abbrev Turning : Visit Errand → State → List Turn → Type 0
   Turning v st ts = IsAlong boot C s q x ClearEngagementBit NoEcho (λ p. Backing p.engage) backing_awaits Done (answering s q) v st ts
 
-  pub bits_cleared : (v : Visit Errand) (st : State) (ts : List Turn) → ((w : Visit Errand) (y : State) (t : Turn) (us : List Turn) → Turning w y (t ∷ us) → Backing (peer_of (middle s y t) q).engage → Steps (IsFor q ClearEngagementBit) s y t → Done y t) → VISIT_TURNS * s.count + VISIT_TURNS < length ts → Turns boot s v st ts → Paced (plan_of s) (whole s) v → Facts st → Tied s x.number q v st → Throughout C s st ts → (peer_of st q).engage.state ≡ Activating → (peer_of st q).engage.back_off ≡ true → SomeTurn Done s st ts
+  pub bits_cleared : (v : Visit Errand) (st : State) (ts : List Turn) → ((w : Visit Errand) (y : State) (t : Turn) (us : List Turn) → Turning w y (t ∷ us) → Backing (peer_of (middle s y t) q).engage → Steps (IsFor q ClearEngagementBit) s y t → Done y t) → VISIT_TURNS * s.count + VISIT_TURNS < length ts → Turns boot s v st ts → Paced (plan_of s) (whole s) v → Facts st → Tied s x.number q v st → Held C s st ts → (peer_of st q).engage.state ≡ Activating → (peer_of st q).engage.back_off ≡ true → SomeTurn Done s st ts
   bits_cleared v st ts claim long y paced facts tied holds active back =
       answered boot C s q x ClearEngagementBit NoEcho (λ p. Backing p.engage) backing_awaits Done (answering s q)
       (λ v st t ts a h m e. (free (middle s st t) a.more.run.holds.1, λ i. unechoed v st t ts a h (e ∙ ap (λ (n : PeerRule). Some (ForPeer q n)) i)))
@@ -354,7 +355,7 @@ module _ (boot : ℕ) (s : ScenarioPart) (q : ℕ) (x : Spot s.part s.count q) w
   abbrev Actives : State → Type 0
   Actives st = IsActivating q st
 
-  pub echoes_stored : (v : Visit Errand) (st : State) (ts : List Turn) → VISIT_TURNS * s.count + VISIT_TURNS < length ts → Turns boot s v st ts → Paced (plan_of s) (whole s) v → Facts st → Tied s x.number q v st → Throughout Actives s st ts → IsSome (peer_of st q).engage.read → (peer_of st q).engage.echo ≡ None → SomeTurn (Steps (IsFor q StoreEcho) s) s st ts
+  pub echoes_stored : (v : Visit Errand) (st : State) (ts : List Turn) → VISIT_TURNS * s.count + VISIT_TURNS < length ts → Turns boot s v st ts → Paced (plan_of s) (whole s) v → Facts st → Tied s x.number q v st → Held Actives s st ts → IsSome (peer_of st q).engage.read → (peer_of st q).engage.echo ≡ None → SomeTurn (Steps (IsFor q StoreEcho) s) s st ts
   echoes_stored v st ts long y paced facts tied holds read echo =
       answered boot Actives s q x StoreEcho NoClear (λ p. Unechoed p.engage) unechoed_awaits (Steps (IsFor q StoreEcho) s) (answering s q)
       (λ v st t ts a h m e. (a.more.run.holds.1.free, λ i. gone v st t ts a h (e ∙ ap (λ (n : PeerRule). Some (ForPeer q n)) i)))
@@ -386,7 +387,7 @@ module _ (boot : ℕ) (s : ScenarioPart) (q : ℕ) (x : Spot s.part s.count q) w
   rule_is : (st : State) (t : Turn) → Steps (IsFor q ClearEngagementBit) s st t → rule_made s (middle s st t) t ≡ Some (ForPeer q ClearEngagementBit)
   rule_is st t y = ap (λ (o : Option Marked). rule_by s (middle s st t) o) y.made ∙ y.decoded ∙ ap (λ (r : Rule). Some r) y.is
 
-  pub not_activating : (v : Visit Errand) (st : State) (ts : List Turn) → VISIT_TURNS * s.count + VISIT_TURNS < length ts → Turns boot s v st ts → Paced (plan_of s) (whole s) v → Facts st → Tied s x.number q v st → Throughout Keeps s st ts → (peer_of st q).engage.back_off ≡ true → ⊥
+  pub not_activating : (v : Visit Errand) (st : State) (ts : List Turn) → VISIT_TURNS * s.count + VISIT_TURNS < length ts → Turns boot s v st ts → Paced (plan_of s) (whole s) v → Facts st → Tied s x.number q v st → Held Keeps s st ts → (peer_of st q).engage.back_off ≡ true → ⊥
   not_activating v st ts long y paced facts tied holds back =
       none st ts (bits_cleared boot Keeps s q x (λ z c. c.free) (λ z t. ⊥) v st ts
       (λ w z t us a h d. bit_gone boot s q z t a.more.run.runs.0 a.more.run.up.0 (first_holds (IsUp boot) s (after_turn s z t) us a.more.run.up.2) h.0 (rule_is z t d) (first_holds Keeps s (after_turn s z t) us a.more.run.holds.2).state)
@@ -443,7 +444,7 @@ module _ (boot : ℕ) (s : ScenarioPart) (q : ℕ) (x : Spot s.part s.count q) w
   abbrev Always : State → Type 0
   Always st = Unit {0}
 
-  always : (us : List Turn) (y : State) → Throughout Always s y us
+  always : (us : List Turn) (y : State) → Held Always s y us
   always [] y = tt
   always (t ∷ us) y = (tt, tt, always us (after_turn s y t))
 

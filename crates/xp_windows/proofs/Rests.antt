@@ -265,28 +265,30 @@ rests_settle = record {
   heard = λ n e h. hear_leaves (λ x y. Quiet x ⊎ (shake_connected y ≡ true)) (λ x y i. i) n e h;
   down = λ reason e i h. inl (record { counters = refl; copied = refl });
   over = λ e i h. inl (record { counters = refl; copied = refl });
-  left = λ k e i h. lefts k e h;
-  got = λ k e i h. gets k e h;
+  left = λ k e i j h. lefts k e h;
+  got = λ k e i j h. gets k e h;
   dropped = λ e h. h;
   owing = λ e h. rests_same e (record e { sides = record e.sides { pull = record e.sides.pull { owed = true } } }) refl refl refl h;
-  sized = λ e size h. h;
+  sized = λ e size i j h. h;
 }
 
 rests_keep : EndKeeps Copies Rests
 rests_keep = record {
-  acts = rests_acts;
-  settling = rests_settle;
-  taken = λ ks e h. h;
-  sent = λ k e can n h. sends k e h;
-  told = λ e n h. h;
-  zeros = λ e n h. h;
-  zeros_put = λ e n h. h;
-  stored = λ x e n h. stores x e h;
-  read = λ x place w e n h. loads x place w e h;
-  acked = λ e n h. h;
-  rings = λ e x h. h;
-  pulls = λ m w e can n h. inr n;
-  failed = λ kind e m n h. fails kind e h;
+  links = record {
+    acts = rests_acts;
+    settling = rests_settle;
+    taken = λ ks e h. h;
+    sent = λ k e can n h. sends k e h;
+    told = λ e n h. h;
+    zeros = λ e n h. h;
+    zeros_put = λ e n h. h;
+    stored = λ x e n h. stores x e h;
+    read = λ x place w e n h. loads x place w e h;
+    acked = λ e n h. h;
+    rings = λ e x h. h;
+    pulls = λ m w e can n h. inr n;
+    failed = λ kind e m n h. fails kind e h;
+  };
   leaves = λ reason e h. inl (down_quiet reason e);
   finishes = λ e h. inl (record { counters = refl; copied = refl });
   joins = λ new m e h. inl (record { counters = refl; copied = refl });

@@ -1,6 +1,6 @@
 -- In each window what is owed is served.
 use Rattle.std.proofs.Common.{◌≡◌, ℕ, ◌+◌, ◌*◌, ◌<◌, ◌≤◌, Bool, true, false, List, [], ◌∷◌, ◌++◌, length, refl, ap, sym, ◌∙◌, subst, arith, inl, inr, Option, None, Some}
-use Rattle.std.specs.Prelude.{IsSome, ◌-◌, nat_lt, nat_eq, ◌||◌, if◌then◌else◌}
+use Rattle.std.specs.Prelude.{IsSome, is_some, ◌-◌, nat_lt, nat_eq, ◌||◌, if◌then◌else◌}
 use Rattle.std.proofs.lemmas.Bool.{or_left}
 use Rattle.std.proofs.lemmas.Bool.Decides.{nat_tests}
 use Rattle.xp_base.specs.declared.layout.TheConstants.{PARTS, WINDOW_PARTS, WINDOW_TURNS, WINDOW_TURNS_EACH}
@@ -15,7 +15,9 @@ use Rattle.xp_rounds.proofs.Visits.{planned_on}
 use Rattle.xp_rounds.proofs.Sources.{Paced, planned_paced}
 use Rattle.xp_protocol.specs.Parts.{IsLawfulPart, IsPeer, script_in}
 use Rattle.xp_protocol.specs.State.{State, Booting, Up, End, end_of}
-use Rattle.xp_protocol.specs.Pulling.{is_copying}
+use Rattle.xp_protocol.specs.Linking.{owed as owes}
+use Rattle.xp_base.specs.declared.link.Kind.{Kind}
+use Rattle.xp_base.specs.declared.link.Kind.TheVariants.{OpenRequest}
 use Rattle.xp_protocol.specs.declared.rule.PullRule.{PullRule}
 use Rattle.xp_protocol.specs.declared.rule.LinkRule.TheVariants.{Ring, Pull, Acknowledge, SetFlag, ZeroGet, ZeroPut, StoreArgument, ReadArgument}
 use Rattle.xp_protocol.specs.declared.rule.PeerRule.TheVariants.{ClearEngagementBit}
@@ -38,8 +40,8 @@ use Rattle.xp_windows.proofs.Takes.{takes_made}
 use Rattle.xp_windows.proofs.Leaves.{areas_closed, partners_told}
 use Rattle.xp_windows.proofs.Planned.{planned_by}
 use Rattle.xp_windows.proofs.Frame.{connected_by}
-use Rattle.xp_windows.proofs.Rests.{Rests}
-use Rattle.xp_windows.proofs.Facts.{Facts, facts_next, facts_first, none_copying}
+use Rattle.xp_windows.proofs.Facts.{Facts, facts_next, facts_first}
+use Rattle.xp_windows.proofs.Owing.{both, closed_rests}
 use Rattle.xp_windows.proofs.Controls.{arguments_loaded, flags_sent}
 use Rattle.xp_windows.proofs.Opens.{areas_opened}
 use Rattle.xp_windows.proofs.Engages.{bits_set}
@@ -47,6 +49,7 @@ use Rattle.xp_windows.proofs.Replies.{bits_left, bits_cleared, echoes_stored, se
 use Rattle.xp_windows.proofs.Records.{records_read}
 use Rattle.xp_windows.proofs.Looks.{Tied, tied_next, tied_first, looks_made}
 use Rattle.xp_windows.proofs.Boots.{AtBoot, boot_kept, boot_over, left_few}
+use Rattle.xp_windows.proofs.Held.{Ended, ended, held, some_still, then_still, from_still}
 use Rattle.xp_windows.proofs.Peers.{begun_all, turns_all}
 
 -- turns that follow the plan, from some visit on
@@ -105,14 +108,6 @@ first_answers s st (t ∷ ts) some p h = inl (p.0.answers h)
 taken_peer : (s : ScenarioPart) (st : State) (q c : ℕ) (wait : Bool) → IsLawfulPart s → current s st ≡ Some (Take q c wait) → IsPeer s.part s.count q c
 taken_peer s st q c wait l e = lawful_command s st.clock.boots (st.script.begun - 1) (Take q c wait) l e
 
--- no word of a channel is copied while it closes
-closed_rests : (e : End) → Rests e → IsSome e.shake.reason → is_copying e.sides.pull ≡ false
-closed_rests e (inl h) some = none_copying e.sides.pull h
-closed_rests e (inr on) some = absurd (reasoned e.shake.reason (connected_by e on).2 some) where
-  reasoned : (o : Option Reason) → o ≡ None → IsSome o → ⊥
-  reasoned None e h = cc
-  reasoned (Some r) e h = absurd (cc)
-
 copied_closed : (st : State) (q c : ℕ) (r : Rule) → At q c CopiesClosed st r → (m : PullRule) × (r ≡ Link q c (Pull m)) × IsSome (end_of st q c).shake.reason
 copied_closed st q c (Link k d (Pull m)) h = (m, ap (λ (j : ℕ). Link j d (Pull m)) h.0 ∙ ap (λ (j : ℕ). Link q j (Pull m)) h.1, h.2)
 copied_closed st q c (Link k d (Ring m)) h = absurd h.2
@@ -141,58 +136,66 @@ none_closing s q c v st [] l x h = h
 none_closing s q c v st (t ∷ ts) l x (inl h) = not_closed s q c v st t x.paced x.follows.0 h
 none_closing s q c v st (t ∷ ts) l x (inr h) = none_closing s q c (visit_after s v st t) (after_turn s st t) ts l (next s v st t ts l x) h
 
-owed : (s : ScenarioPart) (boot : ℕ) (st : State) (window : List Turn) → IsLawfulPart s → VISIT_TURNS * s.count + VISIT_TURNS + 1 < length window → Throughout (IsUp boot) s st window → Window s st window → Owed s st window
-owed s boot st window l long up w =
-    let x = w.turns in
-    let y : Turns boot s w.visit st window = record { ring = x.visit.ring; places = x.visit.count; follows = follows_plan s w.visit boot st window up x.follows; runs = x.runs; up = up } in
+-- an open request is owed by a registered end alone
+asked_for : (k : Kind) (e : End) → owes k e ≡ true → k ≡ OpenRequest → is_some e.registration ≡ true
+asked_for k e o i = (both (is_some e.registration) _ (subst (λ (j : Kind). owes j e ≡ true) i o)).0
+
+owed : (s : ScenarioPart) (boot : ℕ) (st : State) (ts : List Turn) (last : Turn) → IsLawfulPart s → VISIT_TURNS * s.count + VISIT_TURNS + 1 < length ts → Throughout (IsUp boot) s st (ts ++ last ∷ []) → Window s st (ts ++ last ∷ []) → Owed s st (ts ++ last ∷ [])
+owed s boot st ts last l long h w =
+    let v = w.visit in
+    let x = cut s v st ts (last ∷ []) l w.turns in
+    let up = held s (IsUp boot) st ts last h in
+    let y : Turns boot s v st ts = record { ring = x.visit.ring; places = x.visit.count; follows = follows_plan s v boot st ts up x.follows; runs = x.runs; up = up } in
     let some : 0 < s.count = (let p = l.part in omega (arith, p)) in
-    let enough : VISIT_TURNS * s.count + VISIT_TURNS < length window = omega (arith, long) in
+    let enough : VISIT_TURNS * s.count + VISIT_TURNS < length ts = omega (arith, long) in
     record {
-      begins = λ idle left. first_begins s st window (omega (arith, long)) (first_holds (IsUp boot) s st window up).up x.prompt idle left;
-      answers = λ h. first_answers s st window (omega (arith, long)) x.prompt h;
-      activations = activations_taken boot s some w.visit st window enough y;
-      deactivations = deactivations_taken boot s some w.visit st window enough y;
-      looks = λ q p. let z = placed s q l p in looks_made s q z boot w.visit st window enough y x.paced (x.tied q z);
-      opens = λ q p off few h. let z = placed s q l p in areas_opened boot s q z w.visit st window enough y x.paced x.facts (x.tied q z) h off few;
-      engages = λ q p h. let z = placed s q l p in bits_set boot s q z w.visit st window enough y x.paced x.facts (x.tied q z) h;
-      records = λ q p h. let z = placed s q l p in records_read boot s q z w.visit st window enough y x.paced x.facts (x.tied q z) h;
-      backs_off = λ q p active back h. let z = placed s q l p in bits_cleared boot (IsOpenTo q) s q z (λ a b. b.free) (Steps (IsFor q ClearEngagementBit) s) w.visit st window (λ a b t us d e f. f) enough y x.paced x.facts (x.tied q z) h active back;
-      echoes = λ q p read echo h. let z = placed s q l p in echoes_stored boot s q z w.visit st window enough y x.paced x.facts (x.tied q z) h read echo;
-      seconds = λ q p echo none h. let z = placed s q l p in seconds_stored boot s q z w.visit st window enough y x.paced x.facts (x.tied q z) h echo none;
-      closing = λ q c. none_closing s q c w.visit st window l x;
+      begins = λ idle left. some_still s (last ∷ []) _ st ts (first_begins s st ts (omega (arith, long)) (first_holds (IsUp boot) s st ts up).up x.prompt idle left);
+      answers = λ h. some_still s (last ∷ []) _ st ts (first_answers s st ts (omega (arith, long)) x.prompt h);
+      activations = some_still s (last ∷ []) _ st ts (activations_taken boot s some v st ts enough y);
+      deactivations = some_still s (last ∷ []) _ st ts (deactivations_taken boot s some v st ts enough y);
+      looks = λ q p. let z = placed s q l p in from_still s (last ∷ []) _ _ st ts (looks_made s q z boot v st ts enough y x.paced (x.tied q z));
+      opens = λ q p off few h. let z = placed s q l p in some_still s (last ∷ []) _ st ts (areas_opened boot s q z v st ts enough y x.paced x.facts (x.tied q z) (held s _ st ts last h) off few);
+      engages = λ q p h. let z = placed s q l p in some_still s (last ∷ []) _ st ts (bits_set boot s q z v st ts enough y x.paced x.facts (x.tied q z) (held s _ st ts last h));
+      records = λ q p h. let z = placed s q l p in from_still s (last ∷ []) _ _ st ts (records_read boot s q z v st ts enough y x.paced x.facts (x.tied q z) (held s _ st ts last h));
+      backs_off = λ q p active back h. let z = placed s q l p in some_still s (last ∷ []) _ st ts (bits_cleared boot (IsOpenTo q) s q z (λ a b. b.free) (Steps (IsFor q ClearEngagementBit) s) v st ts (λ a b t us d e f. f) enough y x.paced x.facts (x.tied q z) (held s _ st ts last h) active back);
+      echoes = λ q p read echo h. let z = placed s q l p in some_still s (last ∷ []) _ st ts (echoes_stored boot s q z v st ts enough y x.paced x.facts (x.tied q z) (held s _ st ts last h) read echo);
+      seconds = λ q p echo none h. let z = placed s q l p in some_still s (last ∷ []) _ st ts (seconds_stored boot s q z v st ts enough y x.paced x.facts (x.tied q z) (held s _ st ts last h) echo none);
+      closing = λ q c. none_closing s q c v st (ts ++ last ∷ []) l w.turns;
       over = λ q c reason. closed_rests (end_of st q c) (x.facts.rests q c) reason;
-      engagements = λ h. engagements_read boot s some w.visit st window enough y h;
-      flags = λ q p h. flags_taken boot s q (placed s q l p) w.visit st window enough y h;
-      requests = λ q c p owes h. requests_made boot s q c (peer_placed s q c l p) p.2 w.visit st window enough y h owes;
-      arguments = λ q c g p h. let z = peer_placed s q c l p in arguments_loaded boot s q c z p.2 g w.visit st window enough y x.paced x.facts (x.tied q z) h;
-      controls = λ q c k size p other h. let z = peer_placed s q c l p in flags_sent boot s q c z p.2 k size other w.visit st window enough y x.paced x.facts (x.tied q z) h;
-      stores = λ q c p owes h. gets_stored boot s q c (peer_placed s q c l p) p.2 w.visit st window enough y h owes;
-      copies = λ q c p owes h. copies_made boot s q c (peer_placed s q c l p) p.2 w.visit st window long y x.paced h owes;
-      sends = λ q c payload wait notify h. sends_made s q c payload wait notify boot some w.visit st window enough y h;
-      leaves = λ q p left bit told. let z = placed s q l p in bits_left boot s q z w.visit st window enough y x.paced x.facts (x.tied q z) left bit told;
-      closes = λ q p ready reason. areas_closed boot s q (placed s q l p) w.visit st window enough y ready reason;
-      tells = λ q p leaving bit told. partners_told boot s q (placed s q l p) w.visit st window enough y leaving bit told;
-      takes = λ q c wait h. let p = taken_peer s st q c wait l (first_holds (IsTaking s q c wait) s st window h).now in takes_made boot s q c wait some (peer_placed s q c l p) p.2 w.visit st window enough y h;
+      engagements = λ h. some_still s (last ∷ []) _ st ts (engagements_read boot s some v st ts enough y (held s _ st ts last h));
+      flags = λ q p h. some_still s (last ∷ []) _ st ts (flags_taken boot s q (placed s q l p) v st ts enough y (held s _ st ts last h));
+      requests = λ q c p owes h. some_still s (last ∷ []) _ st ts (requests_made boot s q c (peer_placed s q c l p) p.2 v st ts enough y (held s _ st ts last h) owes);
+      arguments = λ q c g p taken missing h. let z = peer_placed s q c l p in some_still s (last ∷ []) _ st ts (arguments_loaded boot s q c z p.2 g v st ts enough y x.paced x.facts (x.tied q z) (held s _ st ts last h) taken missing);
+      controls = λ q c k p other owes h. let z = peer_placed s q c l p in some_still s (last ∷ []) _ st ts (flags_sent boot s q c z p.2 k (end_of st q c).registration other v st ts enough y x.paced x.facts (x.tied q z) (held s _ st ts last h) (asked_for k (end_of st q c) owes) owes);
+      stores = λ q c p owes h. some_still s (last ∷ []) _ st ts (gets_stored boot s q c (peer_placed s q c l p) p.2 v st ts enough y (held s _ st ts last h) owes);
+      copies = λ q c p owes h. then_still s (last ∷ []) _ _ st ts (copies_made boot s q c (peer_placed s q c l p) p.2 v st ts long y x.paced (held s _ st ts last h) owes);
+      sends = λ q c payload wait notify h. some_still s (last ∷ []) _ st ts (sends_made s q c payload wait notify boot some v st ts enough y (held s _ st ts last h));
+      leaves = λ q p left bit told. let z = placed s q l p in some_still s (last ∷ []) _ st ts (bits_left boot s q z v st ts enough y x.paced x.facts (x.tied q z) left bit told);
+      closes = λ q p ready reason. some_still s (last ∷ []) _ st ts (areas_closed boot s q (placed s q l p) v st ts enough y ready reason);
+      tells = λ q p leaving bit told. some_still s (last ∷ []) _ st ts (partners_told boot s q (placed s q l p) v st ts enough y leaving bit told);
+      takes = λ q c wait h. let g = held s (IsTaking s q c wait) st ts last h in let p = taken_peer s st q c wait l (first_holds (IsTaking s q c wait) s st ts g).now in some_still s (last ∷ []) _ st ts (takes_made boot s q c wait some (peer_placed s q c l p) p.2 v st ts enough y g);
     }
 
-long_window : (count : ℕ) → count ≤ PARTS → VISIT_TURNS * count + VISIT_TURNS + 1 < window_of count
+long_window : (count : ℕ) → count ≤ PARTS → VISIT_TURNS * count + VISIT_TURNS + 2 < window_of count
 long_window count h = by (nat_lt WINDOW_PARTS count) refl where
-  by : (b : Bool) → nat_lt WINDOW_PARTS count ≡ b → VISIT_TURNS * count + VISIT_TURNS + 1 < (if b then WINDOW_TURNS_EACH * count else WINDOW_TURNS)
+  by : (b : Bool) → nat_lt WINDOW_PARTS count ≡ b → VISIT_TURNS * count + VISIT_TURNS + 2 < (if b then WINDOW_TURNS_EACH * count else WINDOW_TURNS)
   by true e = let m : 8 < count = grind (arith, nat_tests) in omega (arith, m)
   by false e = let m : count ≤ 8 = grind (arith, nat_tests) in omega (arith, m)
 
 -- a boot is over before a window is
-no_boot : (s : ScenarioPart) (boot : ℕ) (st : State) (window : List Turn) → IsLawfulPart s → length st.peers ≡ s.count → VISIT_TURNS * s.count + VISIT_TURNS + 1 < length window → Window s st window → Throughout (IsBooting boot) s st window → ⊥
-no_boot s boot st window l few long w up =
-    let x = w.turns in
-    let less = boot_over s boot w.visit st window x.visit.ring (x.boot (first_holds (IsBooting boot) s st window up).booting) (λ v y ring. (planned_on (plan_of s) y v ring).0) x.runs x.follows up in
+no_boot : (s : ScenarioPart) (boot : ℕ) (st : State) (ts : List Turn) (last : Turn) → IsLawfulPart s → length st.peers ≡ s.count → VISIT_TURNS * s.count + VISIT_TURNS + 1 < length ts → Window s st (ts ++ last ∷ []) → Throughout (IsBooting boot) s st (ts ++ last ∷ []) → ⊥
+no_boot s boot st ts last l few long w h =
+    let x = cut s w.visit st ts (last ∷ []) l w.turns in
+    let up = held s (IsBooting boot) st ts last h in
+    let less = boot_over s boot w.visit st ts x.visit.ring (x.boot (first_holds (IsBooting boot) s st ts up).booting) (λ v y ring. (planned_on (plan_of s) y v ring).0) x.runs x.follows up in
     let most = left_few s.part st in
     let p = l.part in
     omega (arith, less, most, few, long, p)
 
 record Reached (s : ScenarioPart) (st : State) (window : List Turn) : Type 0 where
   here : Window s st window
-  long : VISIT_TURNS * s.count + VISIT_TURNS + 1 < length window
+  ends : Ended window
+  long : VISIT_TURNS * s.count + VISIT_TURNS + 1 < length ends.early
   all : length st.peers ≡ s.count
 
 reached : (s : ScenarioPart) (ts : List Turn) (st : State) (window : List Turn) → IsLawfulPart s → Runs s ts → Visited s ts → IsWindow s ts st window → Reached s st window
@@ -201,14 +204,25 @@ reached s ts st window l runs v w =
     let y = subst (λ (us : List Turn). Going s (first_visit s) (start s) us) w.turns x in
     let few = long_window s.count l.count in
     let n = w.long in
+    let z = ended window (omega (arith, few, n)) in
+    let m = z.long in
     record {
       here = subst (λ (z : State). Window s z window) (sym w.state) (reach s (first_visit s) (start s) w.before window w.after l y);
-      long = omega (arith, few, n);
+      ends = z;
+      long = omega (arith, few, n, m);
       all = ap (λ (z : State). length z.peers) w.state ∙ (turns_all s (start s) w.before (begun_all s)).partners;
     }
 
+-- what is said of a window, said of its turns but the last one and of that one
+windowed : (G : List Turn → Type 0) (window : List Turn) → (x : Ended window) → G (x.early ++ x.last ∷ []) → G window
+windowed G window x h = subst G (sym x.all) h
+
 pub served : (s : ScenarioPart) → IsLawfulPart s → (ts : List Turn) → Runs s ts → Visited s ts → Windows s ts
 served s l ts runs v = record {
-  owed = λ st window w up. let x = reached s ts st window l runs v w in owed s st.clock.boots st window l x.long up x.here;
-  boots = λ st window w up. let x = reached s ts st window l runs v w in no_boot s st.clock.boots st window l x.all x.long x.here up;
+  owed = λ st window w.
+      let x = reached s ts st window l runs v w in
+      windowed (λ us. Throughout (IsUp st.clock.boots) s st us → Owed s st us) window x.ends (λ up. owed s st.clock.boots st x.ends.early x.ends.last l x.long up (subst (λ (us : List Turn). Window s st us) x.ends.all x.here));
+  boots = λ st window w.
+      let x = reached s ts st window l runs v w in
+      windowed (λ us. Throughout (IsBooting st.clock.boots) s st us → ⊥) window x.ends (λ up. no_boot s st.clock.boots st x.ends.early x.ends.last l x.all x.long (subst (λ (us : List Turn). Window s st us) x.ends.all x.here) up);
 }

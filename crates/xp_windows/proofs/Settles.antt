@@ -17,11 +17,11 @@ pub record SettleKeeps (P : End → Type 0) : Type 0 where
   pub heard : (n : Note) (e : End) → P e → P (hear n e)
   pub down : (reason : Reason) (e : End) → e.shake.reason ≡ None → P e → P (down_end reason e)
   pub over : (e : End) → is_ended e ≡ true → P e → P (epoch_over e).local
-  pub left : (k : Kind) (e : End) → refused k e ≡ true → P e → P (kind_left k e)
-  pub got : (k : Kind) (e : End) → refused k e ≡ false → P e → P (kind_got k e)
+  pub left : (k : Kind) (e : End) → refused k e ≡ true → has_argument k e.shake ≡ true → P e → P (kind_left k e)
+  pub got : (k : Kind) (e : End) → refused k e ≡ false → has_argument k e.shake ≡ true → P e → P (kind_got k e)
   pub dropped : (e : End) → P e → P (record e { shake = record e.shake { taken = without MsgRequest e.shake.taken } })
   pub owing : (e : End) → P e → P (record e { sides = record e.sides { pull = record e.sides.pull { owed = true } } })
-  pub sized : (e : End) (size : Option Size) → P e → P (record e { shake = record e.shake { their_size = size } })
+  pub sized : (e : End) (size : Option Size) → refused OpenRequest e ≡ false → has_argument OpenRequest e.shake ≡ true → P e → let y = kind_got OpenRequest e in P (record y { shake = record y.shake { their_size = size } })
 
 module _ (P : End → Type 0) (z : SettleKeeps P) where
   pub hears_keep : (ns : List Note) (e : End) → P e → P (hears ns e)
@@ -52,13 +52,13 @@ module _ (P : End → Type 0) (z : SettleKeeps P) where
   messages true e h = z.owing e h
   messages false e h = h
 
-  request_by : (b : Bool) (w : ℕ) (e : End) → P e → P (if b then just (record e { shake = record e.shake { their_size = Some (size_in w) } }) else channel_closed (BadArgs w) e).local
-  request_by true w e h = z.sized e (Some (size_in w)) h
-  request_by false w e h = channel (BadArgs w) e h
+  request_by : (b : Bool) (w : ℕ) (e : End) → refused OpenRequest e ≡ false → has_argument OpenRequest e.shake ≡ true → P e → let y = kind_got OpenRequest e in P (if b then just (record y { shake = record y.shake { their_size = Some (size_in w) } }) else channel_closed (BadArgs w) y).local
+  request_by true w e i j h = z.sized e (Some (size_in w)) i j h
+  request_by false w e i j h = channel (BadArgs w) (kind_got OpenRequest e) (z.got OpenRequest e i j h)
 
-  requested : (o : Option ℕ) (e : End) → P e → P (request_handled o e).local
-  requested None e h = h
-  requested (Some w) e h = request_by (is_request w) w e h
+  requested : (o : Option ℕ) (e : End) → refused OpenRequest e ≡ false → has_argument OpenRequest e.shake ≡ true → P e → P (request_handled o (kind_got OpenRequest e)).local
+  requested None e i j h = z.got OpenRequest e i j h
+  requested (Some w) e i j h = request_by (is_request w) w e i j h
 
   reply_by : (b : Bool) (w : ℕ) (e : End) → P e → P (if b then just e else channel_closed (BadArgs w) e).local
   reply_by true w e h = h
@@ -76,25 +76,25 @@ module _ (P : End → Type 0) (z : SettleKeeps P) where
   coded None e h = h
   coded (Some w) e h = code_by (is_code w) w e h
 
-  well : (k : Kind) (e : End) → refused k e ≡ false → P e → P (well_handled k e).local
-  well MsgRequest e i h = let y = record e { shake = record e.shake { taken = without MsgRequest e.shake.taken } } in messages (is_connected y) y (z.dropped e h)
-  well OpenRequest e i h = requested e.shake.request (kind_got OpenRequest e) (z.got OpenRequest e i h)
-  well OpenReply e i h = replied e.shake.reply (kind_got OpenReply e) (z.got OpenReply e i h)
-  well CloseRequest e i h = coded e.shake.code (kind_got CloseRequest e) (z.got CloseRequest e i h)
-  well CloseReply e i h = z.got CloseReply e i h
-  well OpenComplete e i h = z.got OpenComplete e i h
+  well : (k : Kind) (e : End) → refused k e ≡ false → has_argument k e.shake ≡ true → P e → P (well_handled k e).local
+  well MsgRequest e i j h = let y = record e { shake = record e.shake { taken = without MsgRequest e.shake.taken } } in messages (is_connected y) y (z.dropped e h)
+  well OpenRequest e i j h = requested e.shake.request e i j h
+  well OpenReply e i j h = replied e.shake.reply (kind_got OpenReply e) (z.got OpenReply e i j h)
+  well CloseRequest e i j h = coded e.shake.code (kind_got CloseRequest e) (z.got CloseRequest e i j h)
+  well CloseReply e i j h = z.got CloseReply e i j h
+  well OpenComplete e i j h = z.got OpenComplete e i j h
 
-  handles : (b : Bool) (k : Kind) (e : End) → refused k e ≡ b → P e → P (if b then kind_refused k e else well_handled k e).local
-  handles true k e i h = z.left k e i h
-  handles false k e i h = well k e i h
+  handles : (b : Bool) (k : Kind) (e : End) → refused k e ≡ b → has_argument k e.shake ≡ true → P e → P (if b then kind_refused k e else well_handled k e).local
+  handles true k e i j h = z.left k e i j h
+  handles false k e i j h = well k e i j h
 
-  handles_next : (b : Bool) (k : Kind) (e : End) → P e → P (if b then and_then (handled k e) changed else just e).local
-  handles_next true k e h = change (handled k e).local (handles (refused k e) k e refl h)
-  handles_next false k e h = h
+  handles_next : (b : Bool) (k : Kind) (e : End) → has_argument k e.shake ≡ b → P e → P (if b then and_then (handled k e) changed else just e).local
+  handles_next true k e j h = change (handled k e).local (handles (refused k e) k e refl j h)
+  handles_next false k e j h = h
 
   next : (o : Option Kind) (e : End) → P e → P (handled_next o e).local
   next None e h = h
-  next (Some k) e h = handles_next (has_argument k e.shake) k e h
+  next (Some k) e h = handles_next (has_argument k e.shake) k e refl h
 
   settles : (n : ℕ) (e : End) → P e → P (settle n e).local
   settles zero e h = h

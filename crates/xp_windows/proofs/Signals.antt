@@ -28,7 +28,8 @@ use Rattle.xp_plan.specs.declared.errand.Errand.{Errand}
 use Rattle.xp_plan.specs.declared.errand.Errand.TheVariants as errands
 use Rattle.xp_plan.specs.EndSteps.{step_if, or_else, message_at, store_at, owes_store, control_signal, signal_at}
 use Rattle.xp_plan.specs.Plan.{plan_of}
-use Rattle.xp_windows.specs.Windows.{middle, At, IsRequest, IsStore, IsUp, IsMet, IsOpen, SomeTurn, Throughout, Steps}
+use Rattle.xp_windows.specs.Windows.{middle, At, IsRequest, IsStore, IsUp, IsMet, IsOpen, SomeTurn, Steps}
+use Rattle.xp_windows.proofs.Held.{Held}
 use Rattle.xp_windows.specs.Visited.{rule_made}
 use Rattle.xp_windows.proofs.Places.{Turns, Run, run_next, first_holds, asks, fits_signal}
 use Rattle.xp_windows.proofs.Asked.{steps_by}
@@ -173,7 +174,7 @@ module _ (boot : ℕ) (s : ScenarioPart) (q c : ℕ) (x : Spot s.part s.count q)
     asks = λ ph n used v st t ts a long few w. (Some (Link q c (SetFlag MsgRequest)), request_due used v st t ts a w, λ e. inl (inl (steps_by (At q c IsRequest) s st t (Link q c (SetFlag MsgRequest)) e (refl, refl, tt))));
   }
 
-  pub requests_made : (v : Visit Errand) (st : State) (ts : List Turn) → VISIT_TURNS * s.count + VISIT_TURNS < length ts → Turns boot s v st ts → Throughout (IsOpen q c) s st ts → (end_of st q c).shake.owes_message ≡ true → Told st ts
+  pub requests_made : (v : Visit Errand) (st : State) (ts : List Turn) → VISIT_TURNS * s.count + VISIT_TURNS < length ts → Turns boot s v st ts → Held (IsOpen q c) s st ts → (end_of st q c).shake.owes_message ≡ true → Told st ts
   requests_made v st ts long y okay h =
       done (plan_of s) (middle s) (after_turn s) (rule_made s) s.count (λ _. Run boot (IsOpen q c) s) (λ v st t ts e. run_next boot (IsOpen q c) s st t ts) x.number (errands.Signal c) 0 Due (Unit {0}) tt (λ _ n used st. (used ≡ 0) × Due st) (λ _. Told) request_duty v st ts x.low (omega arith) (omega arith) (omega (arith, long))
       (record { ring = y.ring; places = y.places; follows = y.follows; more = record { runs = y.runs; up = y.up; holds = okay } }) (λ a b. h)
@@ -244,7 +245,7 @@ module _ (boot : ℕ) (s : ScenarioPart) (q c : ℕ) (x : Spot s.part s.count q)
     asks = λ ph n used v st t ts a long few w. asked_next n used v st t ts a w;
   }
 
-  pub gets_stored : (v : Visit Errand) (st : State) (ts : List Turn) → VISIT_TURNS * s.count + VISIT_TURNS < length ts → Turns boot s v st ts → Throughout (IsOpen q c) s st ts → (end_of st q c).sides.local_get < (end_of st q c).sides.ack.front → Stored st ts
+  pub gets_stored : (v : Visit Errand) (st : State) (ts : List Turn) → VISIT_TURNS * s.count + VISIT_TURNS < length ts → Turns boot s v st ts → Held (IsOpen q c) s st ts → (end_of st q c).sides.local_get < (end_of st q c).sides.ack.front → Stored st ts
   gets_stored v st ts long y okay h =
       done (plan_of s) (middle s) (after_turn s) (rule_made s) s.count (λ _. Run boot (IsOpen q c) s) (λ v st t ts e. run_next boot (IsOpen q c) s st t ts) x.number (errands.Signal c) 0 Waits (Unit {0}) tt (λ _ n used st. Left n used st) (λ _. Stored) store_duty v st ts x.low (omega arith) (omega arith) (omega (arith, long))
       (record { ring = y.ring; places = y.places; follows = y.follows; more = record { runs = y.runs; up = y.up; holds = okay } }) (λ a b. h)

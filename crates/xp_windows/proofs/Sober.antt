@@ -122,28 +122,30 @@ sober_settle = record {
   heard = heard;
   down = λ reason e i h. down_sober reason e h;
   over = λ e i h. fresh (epoch_over e).local.shake refl refl refl;
-  left = λ k e i h. lefts k e h;
-  got = λ k e i h. gets k e h;
+  left = λ k e i j h. lefts k e h;
+  got = λ k e i j h. gets k e h;
   dropped = λ e h. same e.shake (record e.shake { taken = without MsgRequest e.shake.taken }) refl refl h;
   owing = λ e h. h;
-  sized = λ e size h. same e.shake (record e.shake { their_size = size }) refl refl h;
+  sized = λ e size i j h. same e.shake (record (kind_got OpenRequest e).shake { their_size = size }) refl refl h;
 }
 
 sober_keep : EndKeeps Any Sobers
 sober_keep = record {
-  acts = sober_acts;
-  settling = sober_settle;
-  taken = λ ks e h. same e.shake (with_taken ks e).shake refl refl h;
-  sent = λ k e can n h. sends k e can h;
-  told = λ e n h. same e.shake (record e.shake { owes_message = false }) refl refl h;
-  zeros = λ e n h. same e.shake (record e.shake { get_zero = true }) refl refl h;
-  zeros_put = λ e n h. same e.shake (record e.shake { put_zero = true }) refl refl h;
-  stored = λ x e n h. stores x e h;
-  read = λ x place w e n h. loads x place w e h;
-  acked = λ e n h. same e.shake (record e.shake { owes_message = true }) refl refl h;
-  rings = λ e x h. h;
-  pulls = λ m w e can n h. h;
-  failed = λ kind e m n h. h;
+  links = record {
+    acts = sober_acts;
+    settling = sober_settle;
+    taken = λ ks e h. same e.shake (with_taken ks e).shake refl refl h;
+    sent = λ k e can n h. sends k e can h;
+    told = λ e n h. same e.shake (record e.shake { owes_message = false }) refl refl h;
+    zeros = λ e n h. same e.shake (record e.shake { get_zero = true }) refl refl h;
+    zeros_put = λ e n h. same e.shake (record e.shake { put_zero = true }) refl refl h;
+    stored = λ x e n h. stores x e h;
+    read = λ x place w e n h. loads x place w e h;
+    acked = λ e n h. same e.shake (record e.shake { owes_message = true }) refl refl h;
+    rings = λ e x h. h;
+    pulls = λ m w e can n h. h;
+    failed = λ kind e m n h. h;
+  };
   leaves = leaves;
   finishes = λ e h. fresh no_shake refl refl refl;
   joins = λ new m e h. fresh (joined_end new m e).shake refl refl refl;

@@ -23,7 +23,8 @@ use Rattle.xp_plan.specs.declared.errand.Errand.TheVariants as errands
 use Rattle.xp_plan.specs.EndSteps.{step_if, send_step, once, send_at}
 use Rattle.xp_plan.specs.PeerSteps.{for_peer}
 use Rattle.xp_plan.specs.Plan.{asked, link_rule, link_asked, command_asked, script_asked}
-use Rattle.xp_windows.specs.Windows.{Throughout, SomeTurn, Steps, At, SendsOn, TakesFlags, IsOwn, IsMet, IsSent, IsLeft}
+use Rattle.xp_windows.specs.Windows.{SomeTurn, Steps, At, SendsOn, TakesFlags, IsOwn, IsMet, IsSent, IsLeft}
+use Rattle.xp_windows.proofs.Held.{Held}
 use Rattle.xp_windows.proofs.Places.{Turns, asks, asks_own, joined, own_fits, fits_flags, fits_activations, fits_deactivations, fits_engagements, fits_script}
 use Rattle.xp_windows.proofs.Asked.{done_in_time}
 
@@ -38,7 +39,7 @@ module _ (boot : ℕ) (s : ScenarioPart) (some : 0 < s.count) (v : Visit Errand)
   abbrev Any : State → Type 0
   Any st = Unit {0}
 
-  any : (us : List Turn) (y : State) → Throughout Any s y us
+  any : (us : List Turn) (y : State) → Held Any s y us
   any [] y = tt
   any (t ∷ us) y = (tt, tt, any us (after_turn s y t))
 
@@ -56,7 +57,7 @@ module _ (boot : ℕ) (s : ScenarioPart) (some : 0 < s.count) (v : Visit Errand)
       (λ y up h. record { rule = Own TakeDeactivation; asks = asks_own s errands.Deactivations 0 boot y up; is = refl })
       (omega arith) (omega arith) v st ts some long x (any ts st)
 
-  pub engagements_read : Throughout (IsLeft s) s st ts → SomeTurn (Steps (IsOwn ReadEngaged) s) s st ts
+  pub engagements_read : Held (IsLeft s) s st ts → SomeTurn (Steps (IsOwn ReadEngaged) s) s st ts
   engagements_read h =
       done_in_time boot (IsLeft s) (IsOwn ReadEngaged) s 0 errands.Engagements
       (λ y up h. own_fits s errands.Engagements boot y up (fits_engagements s))
@@ -82,7 +83,7 @@ module _ (s : ScenarioPart) (q c : ℕ) (payload : List ℕ) (wait notify : Bool
       ∙ ap (λ (o : Option Command). asked (command_asked st 0 o)) g.now
       ∙ asked_link q c st (send_at 0 (end_of st q c)) (Ring (send_step (end_of st q c).sides.send)) g.channel.met (send_first (end_of st q c) g.channel.connected g.goes_on)
 
-  pub sends_made : (boot : ℕ) → 0 < s.count → (v : Visit Errand) (st : State) (ts : List Turn) → VISIT_TURNS * s.count + VISIT_TURNS < length ts → Turns boot s v st ts → Throughout (IsSent s q c payload wait notify) s st ts → SomeTurn (Steps (At q c SendsOn) s) s st ts
+  pub sends_made : (boot : ℕ) → 0 < s.count → (v : Visit Errand) (st : State) (ts : List Turn) → VISIT_TURNS * s.count + VISIT_TURNS < length ts → Turns boot s v st ts → Held (IsSent s q c payload wait notify) s st ts → SomeTurn (Steps (At q c SendsOn) s) s st ts
   sends_made boot some v st ts long x h =
       done_in_time boot (IsSent s q c payload wait notify) (At q c SendsOn) s 0 errands.Script
       (λ y up h. own_fits s errands.Script boot y up (fits_script s))
@@ -90,7 +91,7 @@ module _ (s : ScenarioPart) (q c : ℕ) (payload : List ℕ) (wait notify : Bool
       (omega arith) (omega arith) v st ts some long x h
 
 -- the flags of a partner
-pub flags_taken : (boot : ℕ) (s : ScenarioPart) (q : ℕ) (x : Spot s.part s.count q) (v : Visit Errand) (st : State) (ts : List Turn) → VISIT_TURNS * s.count + VISIT_TURNS < length ts → Turns boot s v st ts → Throughout (IsMet q) s st ts → SomeTurn (Steps (TakesFlags q) s) s st ts
+pub flags_taken : (boot : ℕ) (s : ScenarioPart) (q : ℕ) (x : Spot s.part s.count q) (v : Visit Errand) (st : State) (ts : List Turn) → VISIT_TURNS * s.count + VISIT_TURNS < length ts → Turns boot s v st ts → Held (IsMet q) s st ts → SomeTurn (Steps (TakesFlags q) s) s st ts
 flags_taken boot s q x v st ts long y h =
     done_in_time boot (IsMet q) (TakesFlags q) s x.number errands.Flags
     (λ z up h. fits_flags s q x boot z up h)

@@ -1,11 +1,11 @@
 -- What a partition owes within a window of turns, whatever the memory answers: nothing that is due
--- waits longer. A window lies within one boot. What its premises say holds throughout: before each
--- of its turns, right before each step, and after the last turn.
+-- waits longer. A window lies within one boot, and a planned restart may come after its last turn.
+-- What its premises say holds throughout: before each of its turns, and right before each step.
 use Rattle.std.specs.Prelude.{◌≡◌, ℕ, ◌<◌, Bool, true, false, ◌||◌, List, [], ◌∷◌, ◌++◌, length, Option, Some, None, IsSome, ◌⊎◌}
 use Rattle.xp_base.specs.History.{Act, Begun, Answered, Noticed, Marked, Turn}
 use Rattle.xp_base.specs.Windows.{window_of}
 use Rattle.xp_base.specs.declared.link.Kind.{Kind}
-use Rattle.xp_base.specs.declared.link.Kind.TheVariants.{MsgRequest}
+use Rattle.xp_base.specs.declared.link.Kind.TheVariants.{OpenRequest, OpenReply, OpenComplete, MsgRequest}
 use Rattle.xp_base.specs.Kinds.{has}
 use Rattle.xp_script.specs.declared.command.Command.TheVariants.{Send, Take}
 use Rattle.xp_script.specs.declared.part.ScenarioPart.{ScenarioPart}
@@ -68,7 +68,7 @@ SomeFrom E F s st (t ∷ ts) =
     (E st t × SomeTurn F s st (t ∷ ts)) ⊎ SomeFrom E F s (after_turn s st t) ts
 
 abbrev pub Throughout : (State → Type 0) → ScenarioPart → State → List Turn → Type 0
-Throughout C s st [] = C st
+Throughout C s st [] = Unit {0}
 Throughout C s st (t ∷ ts) = C st × C (middle s st t) × Throughout C s (after_turn s st t) ts
 
 -- the turn makes a step, by a rule of which this holds in the state right before the step
@@ -133,20 +133,26 @@ pub record IsOpen (q c : ℕ) (st : State) : Type 0 where
   pub met : IsMet q st
   pub connected : is_connected (end_of st q c) ≡ true
 
--- an argument that a taken flag waits for may be loaded: it wasn't, and no close reply was sent
-pub record IsAwaited (q c : ℕ) (x : Argument) (st : State) : Type 0 where
+-- the argument of a flag that was taken may be loaded: no close reply was sent
+pub record MayLoad (q c : ℕ) (st : State) : Type 0 where
   pub met : IsMet q st
   pub contact : IsSome (end_of st q c).shake.meet
-  pub taken : has (kind_of x) (end_of st q c).shake.taken ≡ true
-  pub missing : has_argument (kind_of x) (end_of st q c).shake ≡ false
   pub unreplied : (end_of st q c).shake.sent.close_reply ≡ false
 
--- a control flag is owed, under this registration of its channel
-pub record IsOwing (q c : ℕ) (k : Kind) (size : Option Size) (st : State) : Type 0 where
+-- the control flags by which a channel opens
+abbrev pub IsOpening : Kind → Type 0
+IsOpening OpenRequest = Unit {0}
+IsOpening OpenReply = Unit {0}
+IsOpening OpenComplete = Unit {0}
+IsOpening k = ⊥
+
+-- a channel stands, as far as a control flag needs it: one that opens the channel, that no reason to
+-- close it came, and the open request, that its registration stays
+pub record IsStanding (q c : ℕ) (k : Kind) (size : Option Size) (st : State) : Type 0 where
   pub met : IsMet q st
   pub contact : IsSome (end_of st q c).shake.meet
-  pub owed : owed k (end_of st q c) ≡ true
-  pub registration : (end_of st q c).registration ≡ size
+  pub reasonless : IsOpening k → (end_of st q c).shake.reason ≡ None
+  pub registration : k ≡ OpenRequest → (end_of st q c).registration ≡ size
 
 -- the script's send to an end goes on: it is in progress, and isn't over
 pub record IsSent (s : ScenarioPart) (q c : ℕ) (payload : List ℕ) (wait notify : Bool)
@@ -201,10 +207,10 @@ SendsOn e (Ring m) = Unit {0}
 SendsOn e m = ⊥
 
 -- a take loads a word of the next entry where the pulled put is above the count pulled, and else it
--- loads the counters
+-- loads put, which ends a copy of the counters
 abbrev pub TakesOn : End → LinkRule → Type 0
 TakesOn e (Pull ReadEntry) = Unit {0}
-TakesOn e (Pull ReadCounters) = has_entry e.sides.pull ≡ false
+TakesOn e (Pull ReadCounters) = (has_entry e.sides.pull ≡ false) × IsSome e.sides.pull.counters
 TakesOn e m = ⊥
 
 -- the flags of a partner are taken
@@ -279,10 +285,13 @@ pub record Owed (s : ScenarioPart) (st : State) (window : List Turn) : Type 0 wh
       (end_of st q c).shake.owes_message ≡ true → Throughout (IsOpen q c) s st window →
       SomeTurn (Steps (At q c IsRequest) s) s st window
   pub arguments : (q c : ℕ) (x : Argument) → IsPeer s.part s.count q c →
-      Throughout (IsAwaited q c x) s st window →
+      has (kind_of x) (end_of st q c).shake.taken ≡ true →
+      has_argument (kind_of x) (end_of st q c).shake ≡ false →
+      Throughout (MayLoad q c) s st window →
       SomeTurn (Steps (At q c (IsRule (ReadArgument x))) s) s st window
-  pub controls : (q c : ℕ) (k : Kind) (size : Option Size) → IsPeer s.part s.count q c →
-      (k ≡ MsgRequest → ⊥) → Throughout (IsOwing q c k size) s st window →
+  pub controls : (q c : ℕ) (k : Kind) → IsPeer s.part s.count q c → (k ≡ MsgRequest → ⊥) →
+      owed k (end_of st q c) ≡ true →
+      Throughout (IsStanding q c k (end_of st q c).registration) s st window →
       SomeTurn (Steps (At q c (IsRule (SetFlag k))) s) s st window
   pub stores : (q c : ℕ) → IsPeer s.part s.count q c →
       (end_of st q c).sides.local_get < (end_of st q c).sides.ack.front →

@@ -1,5 +1,5 @@
 // The commands of the script to the ends of a partner, their answers, and the notices.
-ghost use Rattle.std.specs.Prelude.{◌≡◌, ℕ, ◌+◌, ◌-◌, ◌<◌, ◌^◌, is_some, Some, None, true};
+ghost use Rattle.std.specs.Prelude.{◌≡◌, ℕ, ◌+◌, ◌-◌, ◌<◌, ◌≤◌, ◌^◌, is_some, Some, None, true};
 ghost use Rattle.xp_base.specs.History.{Delivered, Ended};
 ghost use Rattle.xp_protocol.specs.Acts.{end_begun, due_by, notice_due};
 ghost use Rattle.xp_channel.specs.Channel.{kept, called};
@@ -70,6 +70,8 @@ impl Partner {
         ensures end { channel_of self.new channel ≡
             called (kept (noticed Delivered (channel_of self.old channel).end)
             (channel_of self.old channel)) (channel_of self.new channel) }
+        ensures calls { (channel_of self.old channel).room.calls
+            ≤ (channel_of self.new channel).room.calls + 1 }
         ensures room { (notes : ℕ) → HaveNotes (notes + 1) self.old → HaveNotes notes self.new }
         ensures left { (notes : ℕ) → HaveNotesLeft (notes + 1) self.old →
             HaveNotesLeft notes self.new }

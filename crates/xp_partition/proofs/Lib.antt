@@ -1,0 +1,12 @@
+pub mod Lists
+pub mod Roomy
+pub mod Noting
+pub mod Recording
+pub mod Opened
+pub mod Looking
+pub mod Restarting
+pub mod Begins
+pub mod Kept
+pub mod Asking
+pub mod Booting
+pub mod Scripting

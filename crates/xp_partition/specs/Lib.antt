@@ -1,0 +1,9 @@
+pub mod Life
+pub mod Clock
+pub mod CopiesInside
+pub mod ClockInside
+pub mod Partners
+pub mod Lending
+pub mod Opening
+pub mod Keeping
+pub mod Partition

@@ -1,0 +1,5 @@
+mod Sides
+mod Ends
+mod Peers
+pub mod Notices
+pub mod States
