@@ -1,0 +1,9 @@
+pub mod Composing
+pub mod Becoming
+pub mod AtEnds
+pub mod Wants
+pub mod Begun
+pub mod Gone
+pub mod Answered
+pub mod Giving
+pub mod Given

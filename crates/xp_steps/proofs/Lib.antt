@@ -1,0 +1,13 @@
+pub mod Links
+pub mod Becoming
+pub mod Allowed
+pub mod Counts
+pub mod Changing
+pub mod Wants
+pub mod LinkSteps
+pub mod PeerSteps
+pub mod Told
+pub mod OwnSteps
+pub mod Boots
+pub mod Stepped
+pub mod Planned

@@ -1,0 +1,4 @@
+pub mod Stepping
+pub mod Changing
+pub mod Telling
+pub mod Counting
