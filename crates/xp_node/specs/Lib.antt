@@ -1,5 +1,6 @@
-pub mod Held
-pub mod Kept
-pub mod Turns
 pub mod Node
+pub mod Books
+pub mod Journal
+pub mod JournalInside
+pub mod Turning
 pub mod NodeInside

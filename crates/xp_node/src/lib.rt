@@ -1,10 +1,8 @@
-//! One partition: its machines, and its turns so far.
+//! One partition as a node: its turns one after the other, its steps, its log and its records.
 #![tactic(auto)]
 
-pub mod ends;
-pub mod held;
-pub mod kept;
+pub mod ended;
+mod journal;
+pub mod laws;
 pub mod node;
-pub mod planning;
-pub mod telling;
-pub mod turns;
+mod turn;

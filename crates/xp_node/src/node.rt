@@ -1,48 +1,45 @@
-// A node: one partition, its turns so far and the step that waits for its answer.
-ghost use Rattle.std.specs.Prelude.{◌≡◌, ℕ, ◌<◌, ◌≤◌, ◌+◌, ◌-◌, ◌*◌, [], ◌∷◌, ◌++◌, length, true, false, Some, None, IfSome, IfNone, IfOk, IsSome, MatchOption, OnOk, map, slice_get, vec_len, vec_capacity};
-ghost use Rattle.xp_rules.specs.Setup.{IsLawfulSetup, fails_at, is_among};
-ghost use Rattle.xp_rules.specs.Records.{seen};
-ghost use Rattle.xp_rules.specs.Scenario.{setup_of};
+// A node: one partition, what it shows of its turns, and the step that waits for its answer.
+ghost use Rattle.std.specs.Prelude.{◌≡◌, ◌<◌, ◌≤◌, ◌^◌, [], None, IfSome, IfNone, IfOk, IsSome, OnOk, map, reverse};
 ghost use Rattle.xp_script.specs.Lawful.{IsLawful};
-ghost use Rattle.xp_script.specs.Built.{IsBuilt};
-ghost use Rattle.xp_rules.specs.Runs.{Runs, is_done, is_failed};
-ghost use Rattle.xp_rules.specs.Windows.{Windows};
-ghost use Rattle.xp_rules.specs.State.{start};
-ghost use Rattle.xp_duties.specs.Diligent.{AreDiligent};
-ghost use Rattle.xp_node.specs.Turns.{next_place};
-ghost use Rattle.xp_node.specs.Node.{IsEnded, ended_by, state_of, log_of, steps_of, answered_by, MakesTurn, IsStep};
+ghost use Rattle.xp_script.specs.Parts.{part_of};
+ghost use Rattle.xp_protocol.specs.Parts.{IsLawfulPart, is_among, fails_at};
+ghost use Rattle.xp_protocol.specs.Runs.{is_failed};
+ghost use Rattle.xp_counts.specs.Planned.{HasFewPlans};
+ghost use Rattle.xp_connections.specs.Page.{said_of};
+ghost use Rattle.xp_node.specs.Node.{records_at, IsEnded, ended_of, answered_by, MakesTurn, IsStep, HasMade};
 
-use crate::held::Held;
-use crate::kept::Kept;
-use crate::telling::{answer_next, note_begun, note_step, tell};
-use crate::turns::{Ended, Made, Waiting};
+use crate::ended::Ended;
+use crate::journal::Journal;
+use crate::turn::{MOST_TURNS, Waiting, begin_turn, end_turn, make_step};
 use std::alloc::{AllocError, Global};
 use std::marker::Model;
-use xp_base::ids::PartId;
+use std::snapshot::Snapshot;
+use xp_base::ids::{Channel, PartId};
 use xp_base::step::{Answer, CopyMark, Step, Wanted};
-use xp_rules::records::Record;
-use xp_rules::setup::{Setup, setup_for};
+use xp_connections::record::Record;
+use xp_partition::life::Life;
+use xp_partition::partition::Partition;
+use xp_script::count::Count;
 use xp_script::log::Entry;
+use xp_script::part::ScenarioPart;
 use xp_script::scenario::Scenario;
 use xp_script::setting::Faults;
+use xp_steps::wanting::wanted;
 
-// For how many turns room is made at once.
-const TURNS_AHEAD: u8 = 8;
-
-/// One partition: its part of the scenario and its turns. Contracts see these, the step that waits, and for how many turns there is room.
+/// One partition, turn by turn. Contracts see its part of the scenario, what it knows, where it is on
+/// its rounds, its log, its records and its steps, the step that waits for its answer, and for how
+/// many turns there is room. While a step waits, all but that is as it was before the turn.
 #[derive(Drop)]
 pub struct Node {
-    setup: Setup,
-    held: Held,
-    kept: Kept,
-    made: Vec<Made>,
-    steps: Vec<Step>,
+    partition: Partition,
+    journal: Journal,
     waiting: Option<Waiting>,
-    done: bool,
-    /// Where the next turn stands in the circle in which the links are served.
-    place: u16,
-    /// For how many turns there is room for certain.
-    spare: u8,
+    /// The partition before the turn whose step waits.
+    before: Snapshot<Partition>,
+    /// Whether no turn comes any more.
+    ended: bool,
+    /// Whether there is room for a turn.
+    ready: bool,
 }
 
 impl Model for Node {
@@ -50,63 +47,62 @@ impl Model for Node {
 
     ghost Value = { NodeView };
 
-    ghost use Rattle.xp_node.specs.NodeInside.{view_of, IsTied};
+    ghost use Rattle.xp_node.specs.NodeInside.{view_of, IsNode};
 
     ghost view = { view_of };
 
-    ghost invariant = { IsTied };
+    ghost invariant = { IsNode };
 }
 
 impl Node {
     /// A partition of a scenario, before its first turn.
     pub fn new(alloc: Global, scenario: &Scenario, part: PartId) -> Result<Node, AllocError>
         requires lawful { IsLawful scenario.now }
-        requires built { IsBuilt scenario.now }
         requires part { part < scenario.now.count }
-        ensures setup { IfOk result (λ node. node.setup ≡ setup_of scenario.now part) }
-        ensures turns { IfOk result (λ node. node.turns ≡ []) }
+        ensures part { IfOk result (λ node. node.part ≡ part_of scenario.now part) }
+        ensures made { IfOk result (λ node. HasMade node []) }
         ensures waiting { IfOk result (λ node. node.waiting ≡ None) }
     {
-        Node::open(alloc, setup_for(alloc, scenario, part)?)
+        Node::open(alloc, scenario.part(alloc, part)?)
     }
 
     // The partition that is told this of a scenario, before its first turn.
-    fn open(alloc: Global, setup: Setup) -> Result<Node, AllocError>
-        requires { IsLawfulSetup setup }
-        ensures setup { IfOk result (λ node. node.setup ≡ setup) }
-        ensures turns { IfOk result (λ node. node.turns ≡ []) }
+    fn open(alloc: Global, part: ScenarioPart) -> Result<Node, AllocError>
+        requires lawful { IsLawfulPart part }
+        requires few { HasFewPlans part }
+        ensures part { IfOk result (λ node. node.part ≡ part) }
+        ensures made { IfOk result (λ node. HasMade node []) }
         ensures waiting { IfOk result (λ node. node.waiting ≡ None) }
     {
-        let held = Held::new(&setup);
-        let kept = Kept::new(alloc, &setup.links.list)?;
-        let done = held.is_done(&setup);
+        let mut partition = Partition::open(alloc, part)?;
+        partition.moment(0);
+        let ended = partition.keeping.has_ended();
+        let before = Snapshot::of(&partition);
         Ok(Node {
-            setup,
-            held,
-            kept,
-            made: Vec::new(alloc),
-            steps: Vec::new(alloc),
+            partition,
+            journal: Journal::new(alloc),
             waiting: None,
-            done,
-            place: 0,
-            spare: 0,
+            before,
+            ended,
+            ready: false,
         })
     }
 
-    /// Makes room for a turn, and for a few more where there is none left.
+    /// Makes room for a turn. There is none after `MOST_TURNS` turns.
     pub fn reserve_turn(&mut self) -> Result<(), AllocError>
         ensures ok { OnOk result (0 < self.new.room) }
         ensures same { self.new ≡ record self.old { room = self.new.room } }
         ensures room { self.old.room ≤ self.new.room }
     {
-        if self.spare > 0 {
+        if self.ready {
             return Ok(());
         }
-        let turns = TURNS_AHEAD as usize;
-        self.made.reserve(turns)?;
-        self.steps.reserve(turns)?;
-        self.kept.reserve(turns)?;
-        self.spare = TURNS_AHEAD;
+        if self.partition.keeping.clock.turns() >= MOST_TURNS {
+            return Err(AllocError);
+        }
+        self.partition.reserve()?;
+        self.journal.reserve()?;
+        self.ready = true;
         Ok(())
     }
 
@@ -117,102 +113,89 @@ impl Node {
         requires idle { self.old.waiting ≡ None }
         ensures some { IfSome result (λ wanted. self.new ≡ record self.old { waiting = Some wanted }) }
         ensures none { IfNone result (MakesTurn self.old self.new None) }
-        ensures step { IfSome result (λ wanted. IsStep self.old.setup wanted) }
-        ensures windows { Windows self.new.setup self.new.turns }
+        ensures step { IfSome result (λ wanted. IsStep self.old.part wanted) }
     {
-        let began = self.held.begin_next(&self.setup);
-        match self.held.plan(&self.setup, self.place) {
+        let before = Snapshot::of(&self.partition);
+        let earlier = self.partition.keeping.clock.puts();
+        let begun = begin_turn(&mut self.partition);
+        match begun.rule {
             Some(rule) => {
-                let wanted = self.held.wanted(&self.setup, rule);
-                self.waiting = Some(Waiting {
+                let waiting = Waiting {
                     rule,
-                    op: wanted.op,
-                    began,
-                });
+                    wanted: wanted(&self.partition.keeping, rule),
+                    entry: begun.entry,
+                    earlier,
+                };
+                let wanted = waiting.wanted();
+                self.before = before;
+                self.waiting = Some(waiting);
                 Some(wanted)
             }
             None => {
-                note_begun(&self.setup, &self.held, began, &mut self.kept);
-                let answered = answer_next(&self.setup, &mut self.held, &mut self.kept);
-                keep(
-                    &mut self.made,
-                    Made {
-                        began,
-                        rule: None,
-                        noticed: 0,
-                        answered,
-                    },
-                );
-                self.done = self.held.is_done(&self.setup);
-                self.place = place_after(&self.setup, self.place);
-                self.spare = self.spare.saturating_sub(1);
+                let answer = end_turn(&mut self.partition, earlier);
+                self.journal.write(begun.entry, None, answer);
+                self.ended = self.partition.keeping.has_ended();
+                self.ready = false;
                 None
             }
         }
     }
 
-    /// Takes the answer of the step that waits, and ends the turn. The answer is that the load failed exactly where that is planned.
+    /// Takes the answer of the step that waits, and ends the turn. The answer is that the load
+    /// failed exactly where that is planned.
     pub fn feed(&mut self, answer: Answer)
         requires room { 0 < self.old.room }
         requires waits { IsSome self.old.waiting }
-        requires planned { IfSome self.old.waiting (λ wanted. is_failed answer ≡ fails_at self.old.setup wanted.mark) }
-        ensures made { IfSome self.old.waiting (λ wanted. MakesTurn self.old self.new (Some (answered_by wanted answer))) }
-        ensures windows { Windows self.new.setup self.new.turns }
+        requires planned { IfSome self.old.waiting
+            (λ wanted. is_failed answer ≡ fails_at self.old.part wanted.mark) }
+        ensures made { IfSome self.old.waiting
+            (λ wanted. MakesTurn self.old self.new (Some (answered_by wanted answer))) }
     {
-        let Some(waiting) = self.waiting else {
+        let Some(waiting) = self.waiting.take() else {
             return;
         };
-        let rule = waiting.rule;
-        note_begun(&self.setup, &self.held, waiting.began, &mut self.kept);
-        note_step(&self.held, rule, &answer, &mut self.kept.records);
-        self.held.apply(&self.setup, rule, answer);
-        let told = tell(&self.setup, &mut self.held, &mut self.kept, rule);
-        keep(
-            &mut self.steps,
-            Step {
-                op: waiting.op,
-                answer,
-            },
-        );
-        keep(
-            &mut self.made,
-            Made {
-                began: waiting.began,
-                rule: Some(rule),
-                noticed: told.noticed,
-                answered: told.answered,
-            },
-        );
-        self.waiting = None;
-        self.done = self.held.is_done(&self.setup);
-        self.place = place_after(&self.setup, self.place);
-        self.spare = self.spare.saturating_sub(1);
+        make_step(&mut self.partition, &waiting, answer);
+        let answered = end_turn(&mut self.partition, waiting.earlier);
+        let step = Step {
+            op: waiting.wanted.op,
+            answer,
+        };
+        self.journal.write(waiting.entry, Some(step), answered);
+        self.ended = self.partition.keeping.has_ended();
+        self.ready = false;
     }
+}
 
+impl Node {
     /// How the partition has ended, where it has.
     pub fn ended(&self) -> Option<Ended>
         requires { self.now.waiting ≡ None }
-        ensures { result ≡ ended_by (is_done self.now.setup (state_of self.now)) }
+        ensures { result ≡ ended_of self.now }
     {
-        if self.done { Some(Ended::Done) } else { None }
+        if !self.ended {
+            return None;
+        }
+        if self.partition.keeping.stopped {
+            return Some(Ended::Stopped);
+        }
+        match self.partition.keeping.life {
+            Life::Halted { word } => Some(Ended::Halted { word }),
+            Life::Booting | Life::Up => Some(Ended::Done),
+        }
     }
 
     /// How many turns were made.
     pub fn turns(&self) -> u64
-        ensures count { result ≡ length self.now.turns }
-        ensures runs { Runs self.now.setup self.now.turns }
-        ensures diligent { AreDiligent self.now.setup 0 (start self.now.setup) self.now.turns }
-        ensures windows { Windows self.now.setup self.now.turns }
+        ensures { result ≡ self.now.state.clock.turns }
     {
-        let _ = &self.held;
-        self.made.len() as u64
+        self.partition.keeping.clock.turns()
     }
 
-    /// The number of the boot: a partition boots once.
+    /// How many boots were begun, the present one among them.
     pub fn boots(&self) -> u8
-        ensures { result ≡ 1 }
+        ensures { result ≡ self.now.state.clock.boots }
     {
-        1
+        self.partition.keeping.clock.boots() as u8
     }
 
     /// How many buffers of the network device are in use: there is no device.
@@ -224,56 +207,55 @@ impl Node {
 
     /// The scenario's number of turns where nothing schedules them.
     pub fn budget(&self) -> u64
-        ensures { result ≡ self.now.setup.budget }
+        ensures { result ≡ self.now.part.budget }
     {
-        self.setup.budget
+        self.partition.keeping.part.budget
     }
 
     /// Whether the scenario plans that the load of a mark fails.
     pub fn fails(&self, mark: CopyMark) -> bool
-        ensures { result ≡ is_among mark self.now.setup.faults }
+        ensures { result ≡ is_among mark self.now.part.faults }
     {
-        is_named(&self.setup.faults, mark)
+        is_named(&self.partition.keeping.part.faults, mark)
     }
 
     /// The number of the partition.
     pub fn part(&self) -> u8
-        ensures { result ≡ self.now.setup.part }
+        ensures { result ≡ self.now.part.part }
     {
-        self.setup.part.get()
+        self.partition.keeping.part.part.get()
+    }
+
+    /// How many partitions there are.
+    pub fn count(&self) -> Count
+        ensures { result ≡ self.now.part.count }
+    {
+        self.partition.keeping.part.count
     }
 
     /// The steps of all turns, in their order.
     pub fn trace(&self) -> &[Step]
-        ensures { result.now ≡ steps_of self.now.turns }
+        ensures { result.now ≡ self.now.steps }
     {
-        &self.steps
+        self.journal.trace()
     }
 
     /// The commands that were begun, with their answers.
     pub fn log(&self) -> &[Entry]
-        ensures { result.now ≡ (log_of self.now).entries }
+        ensures { result.now ≡ self.now.entries }
     {
-        &self.kept.log
+        self.journal.log()
     }
 
-    /// The records of the connections, by partner and channel.
-    pub fn records(&self) -> &[Record]
-        ensures { map seen result.now ≡ (log_of self.now).records }
+    /// The records of an end's connections, in the order in which they were begun.
+    pub fn records(&self, partner: PartId, channel: Channel) -> &[Record]
+        requires partner { partner < self.now.part.count }
+        requires idle { self.now.waiting ≡ None }
+        ensures { map said_of (reverse result.now) ≡ records_at self.now partner channel }
     {
-        &self.kept.records
-    }
-
-    /// Record `n`, from 0, where there is one.
-    pub fn record(&self, n: u64) -> Option<&Record>
-        ensures { MatchOption result (length (log_of self.now).records ≤ n) (λ r. slice_get (log_of self.now).records n ≡ Some (seen r.now)) }
-    {
-        let records = self.records();
-        if n < records.len() as u64 {
-            Some(&records[n as usize])
-        } else {
-            None
-        }
+        let _number = channel.get();
+        let partner = self.partition.keeping.partners.at(partner);
+        partner.end(channel).records()
     }
 }
 
@@ -287,28 +269,4 @@ fn is_named(faults: &Faults, mark: CopyMark) -> bool
         }
     }
     false
-}
-
-// The place in the circle that comes next. It stays where there are no links.
-fn place_after(setup: &Setup, place: u16) -> u16
-    requires lawful { IsLawfulSetup setup.now }
-    requires low { place ≤ 8 * length setup.now.links }
-    ensures { result ≡ next_place setup.now place }
-{
-    let next = place + 1;
-    if (next as usize) < 8 * setup.links.list.len() {
-        next
-    } else {
-        0
-    }
-}
-
-// Appends an item for which there is room.
-fn keep<T: Drop>(list: &mut Vec<T>, item: T)
-    requires { vec_len list.old < vec_capacity list.old }
-    ensures items { list.new.items ≡ list.old.items ++ item ∷ [] }
-    ensures len { vec_len list.new ≡ vec_len list.old + 1 }
-    ensures capacity { vec_capacity list.old ≤ vec_capacity list.new }
-{
-    let _ = list.push(item);
 }

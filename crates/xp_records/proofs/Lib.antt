@@ -12,3 +12,12 @@ mod Causes
 mod Sends
 mod Answered
 mod Examples
+mod Named
+mod Stamps
+mod Blames
+mod Answering
+mod Looks
+mod Reasons
+mod Cleaned
+mod Logs
+mod Gathered

@@ -1,3 +1,6 @@
 pub mod Anew
 pub mod Noticed
 pub mod Answers
+pub mod Names
+pub mod Clean
+pub mod Promises

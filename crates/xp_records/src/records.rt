@@ -8,6 +8,9 @@ ghost use Rattle.xp_protocol.specs.Reached.{ReachedWords};
 ghost use Rattle.xp_records.specs.Anew.{SidesAnew};
 ghost use Rattle.xp_records.specs.Answers.{SendAnswers};
 ghost use Rattle.xp_records.specs.Noticed.{DeliveredAcknowledged, NoticesRecorded};
+ghost use Rattle.xp_records.specs.Promises.{Promises};
+
+use xp_counts::laws::{boots_planned, plans_few};
 
 /// Whatever history the rules reach in a lawful scenario: until an end sends the open complete of an
 /// epoch both its sides are as new, and it sends it after both open requests. So no send is in
@@ -41,3 +44,17 @@ pub fn sends_answered()
     ensures { (s : Scenario) → IsLawful s →
         (h : List Event) (m : Memory) → ReachedWords s h m → SendAnswers s h }
 {}
+
+/// Whatever history the rules reach in a lawful scenario: all promises hold of it at once. In each
+/// connection that ever was, the messages taken are a prefix of those that were accepted; entries are
+/// reused only after an acknowledgement, and no channel memory is touched without the own engagement
+/// bit there; sends are answered for their causes, notices are told once; and nothing that was read
+/// is refused: no reason that refuses a word or a version stands at a partner or an end, in a record
+/// or in an answer, and no partition halts.
+pub fn all_promised()
+    ensures { (s : Scenario) → IsLawful s →
+        (h : List Event) (m : Memory) → ReachedWords s h m → Promises s h m }
+{
+    boots_planned();
+    plans_few();
+}

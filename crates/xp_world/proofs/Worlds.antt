@@ -1,5 +1,5 @@
 -- A reached world that takes turns is reached.
-use Rattle.std.proofs.Common.{◌≡◌, ℕ, ◌<◌, List, [], ◌∷◌, ◌++◌, length, Bool, cond, refl, ap, sym, ◌∙◌, subst, arith, Some, None, Result, Ok, Err, set, slice_get, inl, inr, ◌⊎◌, append_assoc, append-nil}
+use Rattle.std.proofs.Common.{◌≡◌, ℕ, ◌<◌, List, [], ◌∷◌, ◌++◌, length, Bool, cond, refl, ap, sym, ◌∙◌, subst, arith, Option, Some, None, Result, Ok, Err, set, slice_get, inl, inr, ◌⊎◌, append_assoc, append-nil}
 use Rattle.std.proofs.Math.ListN.{length-set}
 use Rattle.std.proofs.lemmas.Option.{slice_get_within}
 use Rattle.std.specs.Result.{OnOk, OnErr}
@@ -9,17 +9,19 @@ use Rattle.std.proofs.lemmas.Bool.{eq-eqb, ne_eqb, cases_eq}
 use Rattle.xp_base.specs.Memory.{Memory}
 use Rattle.xp_base.specs.History.{Turn, Event, Poked, Turned, Legal, turns_of}
 use Rattle.xp_base.proofs.HistoryLemmas.{Legal-push, turns_of-append}
-use Rattle.xp_rules.specs.declared.setup.Setup.{Setup}
+use Rattle.xp_base.specs.History.{Marked, IsAnswered, CanHappen, happens, after_made}
+use Rattle.xp_script.specs.declared.part.ScenarioPart.{ScenarioPart}
 use Rattle.xp_script.specs.declared.scenario.Scenario.{Scenario}
-use Rattle.xp_rules.specs.State.{start}
-use Rattle.xp_rules.specs.Runs.{Runs, IsDone, state_after}
-use Rattle.xp_rules.specs.Scenario.{setup_of}
+use Rattle.xp_script.specs.Parts.{part_of}
 use Rattle.xp_script.specs.Opening.{opening}
-use Rattle.xp_rules.specs.Reached.{AreTurnsOf, ReachedWords, HasEnded, Follows}
-use Rattle.xp_node.specs.Node.{NodeView, IsEnded}
+use Rattle.xp_protocol.specs.State.{State}
+use Rattle.xp_protocol.specs.Runs.{start, Runs, IsDone, state_after}
+use Rattle.xp_protocol.specs.Reached.{AreTurnsOf, ReachedWords, HasEnded, Follows}
+use Rattle.xp_node.specs.Node.{NodeView, IsEnded, MakesTurn, HasMade}
+use Rattle.xp_node.proofs.Histories.{made_more}
 use Rattle.xp_world.specs.declared.world.World.{World}
 use Rattle.xp_world.specs.Turning.{TurnsOnce, StaysEnded, TakesTurn, IsSameNode}
-use Rattle.xp_world.specs.World.{IsNodeOf, Reached, Reaches, IsReadyNode, IsReady, WorldTurns, IsSameWorld, StaysReached, TakeTurns}
+use Rattle.xp_world.specs.World.{IsNodeOf, Reached, Reaches, AreNew, IsReadyNode, IsReady, WorldTurns, IsSameWorld, StaysReached, TakeTurns}
 use Rattle.xp_world.proofs.Each.{each_after_set, set_same}
 
 -- a partition that has ended is left out
@@ -48,23 +50,25 @@ Follows-turned s done (q ∷ ps) (x ∷ h) p t f e =
       | inr a ↦ inr (a.0, a.1, Follows-turned s (done ++ x ∷ []) ps h p t a.2 (λ y. e (subst P (append_assoc done (x ∷ []) h) y)))
     ]
 
-Ended : Setup → List Turn → Type 0
+Ended : ScenarioPart → List Turn → Type 0
 Ended a x = IsDone a (state_after a (start a) x)
 
-ended_by : (a b : Setup) (x y : List Turn) → a ≡ b → x ≡ y → Ended a x → Ended b y
-ended_by a b x y e f h = subst (λ (u : Setup). Ended u y) e (subst (λ (z : List Turn). Ended a z) f h)
-
 -- a node has ended exactly where its partition has in the history
+done_by : (a b : ScenarioPart) (st : State) (ts : List Turn) → a ≡ b → st ≡ state_after a (start a) ts → IsDone a st → Ended b ts
+unfolding Ended
+done_by a b st ts e f h = subst (λ (u : ScenarioPart). Ended u ts) e (subst (IsDone a) f h)
+
+done_back : (a b : ScenarioPart) (st : State) (ts : List Turn) → a ≡ b → st ≡ state_after a (start a) ts → Ended b ts → IsDone a st
+unfolding Ended
+done_back a b st ts e f h = subst (IsDone a) (sym f) (subst (λ (u : ScenarioPart). Ended u ts) (sym e) h)
+
 has_ended : (s : Scenario) (h : List Event) (p : ℕ) (n : NodeView) → IsNodeOf s h p n → IsEnded n → HasEnded s p h
 unfolding Ended
-has_ended s h p n k e = ended_by n.setup (setup_of s p) n.turns (turns_of p h) k.setup k.turns e
+has_ended s h p n k e = done_by n.part (part_of s p) n.state (turns_of p h) k.part k.made.state e
 
 is_ended : (s : Scenario) (h : List Event) (p : ℕ) (n : NodeView) → IsNodeOf s h p n → HasEnded s p h → IsEnded n
 unfolding Ended
-is_ended s h p n k e = ended_by (setup_of s p) n.setup (turns_of p h) n.turns (sym k.setup) (sym k.turns) e
-
-Runs_by : (a b : Setup) (x y : List Turn) → a ≡ b → x ≡ y → Runs a x → Runs b y
-Runs_by a b x y e f h = subst (λ (u : Setup). Runs u y) e (subst (λ (z : List Turn). Runs a z) f h)
+is_ended s h p n k e = done_back n.part (part_of s p) n.state (turns_of p h) k.part k.made.state e
 
 turns_of-own : (p : ℕ) (h : List Event) (t : Turn) → turns_of p (h ++ Turned p t ∷ []) ≡ turns_of p h ++ t ∷ []
 turns_of-own p h t = turns_of-append p h (Turned p t ∷ []) ∙ ap (λ (b : Bool). turns_of p h ++ cond b (t ∷ []) []) (eq-eqb p p refl)
@@ -73,22 +77,23 @@ turns_of-other : (k p : ℕ) (h : List Event) (t : Turn) → (p ≡ k → ⊥) �
 turns_of-other k p h t ne =
     turns_of-append k h (Turned p t ∷ []) ∙ ap (λ (b : Bool). turns_of k h ++ cond b (t ∷ []) []) (ne_eqb p k ne) ∙ append-nil (turns_of k h)
 
-own_node : (s : Scenario) (h : List Event) (p : ℕ) (before after : NodeView) (t : Turn) → IsNodeOf s h p before → after.turns ≡ before.turns ++ t ∷ [] → after.setup ≡ before.setup → Runs after.setup after.turns → IsNodeOf s (h ++ Turned p t ∷ []) p after
-own_node s h p before after t was turns setup runs =
-    let e : after.setup ≡ setup_of s p = setup ∙ was.setup in
-    let f : after.turns ≡ turns_of p (h ++ Turned p t ∷ []) = turns ∙ ap (λ (x : List Turn). x ++ t ∷ []) was.turns ∙ sym (turns_of-own p h t) in
-    record { setup = e; turns = f; runs = Runs_by _ _ _ _ e f runs }
+own_node : (s : Scenario) (h : List Event) (p : ℕ) (before after : NodeView) (made : Option Marked) (k : MakesTurn before after made) → IsNodeOf s h p before → IsNodeOf s (h ++ Turned p k.turn ∷ []) p after
+own_node s h p before after made k was =
+    record {
+      part = k.part ∙ was.part;
+      made = subst (λ (ts : List Turn). HasMade after ts) (sym (turns_of-own p h k.turn)) (made_more before after made k (turns_of p h) was.made);
+    }
 
-other_runs : (s : Scenario) (h : List Event) (p k : ℕ) (t : Turn) → (p ≡ k → ⊥) → Runs (setup_of s k) (turns_of k h) → Runs (setup_of s k) (turns_of k (h ++ Turned p t ∷ []))
-other_runs s h p k t ne was = subst (λ (x : List Turn). Runs (setup_of s k) x) (sym (turns_of-other k p h t ne)) was
+other_runs : (s : Scenario) (h : List Event) (p k : ℕ) (t : Turn) → (p ≡ k → ⊥) → Runs (part_of s k) (turns_of k h) → Runs (part_of s k) (turns_of k (h ++ Turned p t ∷ []))
+other_runs s h p k t ne was = subst (λ (x : List Turn). Runs (part_of s k) x) (sym (turns_of-other k p h t ne)) was
 
 other_node : (s : Scenario) (h : List Event) (p k : ℕ) (n : NodeView) (t : Turn) → (p ≡ k → ⊥) → IsNodeOf s h k n → IsNodeOf s (h ++ Turned p t ∷ []) k n
 other_node s h p k n t ne was =
-    record { setup = was.setup; turns = was.turns ∙ sym (turns_of-other k p h t ne); runs = other_runs s h p k t ne was.runs }
+    record { part = was.part; made = subst (λ (ts : List Turn). HasMade n ts) (sym (turns_of-other k p h t ne)) was.made }
 
 -- each partition runs by the rules after p's turn
-runs_by : (s : Scenario) (h : List Event) (p : ℕ) (t : Turn) → Runs (setup_of s p) (turns_of p (h ++ Turned p t ∷ [])) → (k : ℕ) → Runs (setup_of s k) (turns_of k h) → (p ≡ k) ⊎ (p ≡ k → ⊥) → Runs (setup_of s k) (turns_of k (h ++ Turned p t ∷ []))
-runs_by s h p t own k was (inl e) = subst (λ (j : ℕ). Runs (setup_of s j) (turns_of j (h ++ Turned p t ∷ []))) e own
+runs_by : (s : Scenario) (h : List Event) (p : ℕ) (t : Turn) → Runs (part_of s p) (turns_of p (h ++ Turned p t ∷ [])) → (k : ℕ) → Runs (part_of s k) (turns_of k h) → (p ≡ k) ⊎ (p ≡ k → ⊥) → Runs (part_of s k) (turns_of k (h ++ Turned p t ∷ []))
+runs_by s h p t own k was (inl e) = subst (λ (j : ℕ). Runs (part_of s j) (turns_of j (h ++ Turned p t ∷ []))) e own
 runs_by s h p t own k was (inr ne) = other_runs s h p k t ne was
 
 parts-push : (count : ℕ) (h : List Event) (p : ℕ) (t : Turn) → AreTurnsOf count h → p < count → AreTurnsOf count (h ++ Turned p t ∷ [])
@@ -97,20 +102,26 @@ parts-push count (Turned q u ∷ h) p t f low = (f.0, parts-push count h p t f.1
 parts-push count (Poked o i v ∷ h) p t f low = absurd f
 
 -- the history after a turn that was taken
-turned : (s : Scenario) (h : List Event) (w w' : World) (p : ℕ) → Reached s h w → (t : WorldTurns w w' p) → (k : TurnsOnce w.words t.before w'.words t.after) → Reached s (h ++ Turned p k.turn ∷ []) w'
+happened : (m m' : Memory) (p : ℕ) (t : Turn) (made : Option Marked) → t.made ≡ made → m' ≡ after_made m made → m' ≡ happens m (Turned p t)
+happened m m' p t made e w = w ∙ ap (after_made m) (sym e)
+
+turned : (s : Scenario) (h : List Event) (w w' : World) (p : ℕ) → Reached s h w → (t : WorldTurns w w' p) → (k : TurnsOnce w.words t.before w'.words t.after) → Reached s (h ++ Turned p k.turns.turn ∷ []) w'
 turned s h w w' p r t k =
-    let own = own_node s h p t.before t.after k.turn (r.nodes p t.before t.was) k.turns k.setup k.runs in
-    let g = h ++ Turned p k.turn ∷ [] in
+    let own = own_node s h p t.before t.after k.made k.turns (r.nodes p t.before t.was) in
+    let g = h ++ Turned p k.turns.turn ∷ [] in
     let N : List NodeView → Type 0 = λ ns. (q : ℕ) (n : NodeView) → slice_get ns q ≡ Some n → IsNodeOf s g q n in
     let low : p < s.count = omega (arith, slice_get_within w.nodes.items p t.before t.was, r.count) in
+    let can : CanHappen w.words (Turned p k.turns.turn) = subst (IsAnswered w.words) (sym k.turns.step) k.answered in
+    let words : w'.words ≡ happens w.words (Turned p k.turns.turn) = happened w.words w'.words p k.turns.turn k.made k.turns.step k.words in
+    let runs : Runs (part_of s p) (turns_of p g) = subst (λ (a : ScenarioPart). Runs a (turns_of p g)) own.part own.made.runs in
     record {
       words = record {
-        parts = parts-push s.count h p k.turn r.words.parts low;
-        legal = subst (λ (m : Memory). Legal (opening s) (h ++ Turned p k.turn ∷ []) m) (sym k.words) (Legal-push h (Turned p k.turn) (opening s) w.words r.words.legal k.answered);
-        runs = λ q f. runs_by s h p k.turn own.runs q (r.words.runs q f) (cases_eq p q);
+        parts = parts-push s.count h p k.turns.turn r.words.parts low;
+        legal = subst (λ (m : Memory). Legal (opening s) g m) (sym words) (Legal-push h (Turned p k.turns.turn) (opening s) w.words r.words.legal can);
+        runs = λ q f. runs_by s h p k.turns.turn runs q (r.words.runs q f) (cases_eq p q);
       };
       count = ap length t.nodes ∙ length-set w.nodes.items p t.after ∙ r.count;
-      nodes = subst N (sym t.nodes) (each_after_set w.nodes.items (IsNodeOf s g) p t.after t.before t.was own (λ q n ne is. other_node s h p q n k.turn ne (r.nodes q n is)));
+      nodes = subst N (sym t.nodes) (each_after_set w.nodes.items (IsNodeOf s g) p t.after t.before t.was own (λ q n ne is. other_node s h p q n k.turns.turn ne (r.nodes q n is)));
     }
 
 -- the same history where the partition has ended
@@ -124,13 +135,31 @@ stayed s h w w' p r t k =
       nodes = subst N (sym same) r.nodes;
     }
 
+-- before the first turn
+pub opened_reached : (s : Scenario) (w : World) → w.words ≡ opening s → AreNew s w.nodes.items → length w.nodes.items ≡ s.count → Reached s [] w
+opened_reached s w words new count = record {
+  words = record { parts = tt; legal = words; runs = λ p low. tt };
+  count = count;
+  nodes = λ p n is. (new p n is).node;
+}
+
+pub opened_ready : (s : Scenario) (w : World) → length w.words ≡ s.count → AreNew s w.nodes.items → length w.nodes.items ≡ s.count → IsReady w
+opened_ready s w words new count = record {
+  words = words ∙ sym count;
+  nodes = λ k n is. record {
+    part = ap (λ (x : ScenarioPart). x.part) (new k n is).node.part;
+    count = ap (λ (x : ScenarioPart). x.count) (new k n is).node.part ∙ sym count;
+    idle = (new k n is).waiting;
+  };
+}
+
 -- one turn more
 pub reaches_turn : (s : Scenario) (ps : List ℕ) (w w' : World) (p : ℕ) → Reaches s ps w → WorldTurns w w' p → Reaches s (ps ++ p ∷ []) w'
 reaches_turn s ps w w' p r t =
     let node = r.1.nodes p t.before t.was in
     elim t.turn [
       | inl k ↦ (r.0, stayed s r.0 w w' p r.1 t k, Follows-ended s [] ps r.0 p r.2 (has_ended s r.0 p t.before node k.ended))
-      | inr k ↦ (r.0 ++ Turned p k.turn ∷ [], turned s r.0 w w' p r.1 t k, Follows-turned s [] ps r.0 p k.turn r.2 (λ e. k.running (is_ended s r.0 p t.before node e)))
+      | inr k ↦ (r.0 ++ Turned p k.turns.turn ∷ [], turned s r.0 w w' p r.1 t k, Follows-turned s [] ps r.0 p k.turns.turn r.2 (λ e. k.running (is_ended s r.0 p t.before node e)))
     ]
 
 pub reaches_turns : (s : Scenario) (before ps : List ℕ) (w w' : World) → Reaches s before w → TakeTurns ps w w' → Reaches s (before ++ ps) w'
@@ -147,7 +176,7 @@ stays_reached : (w w' : World) (p : ℕ) → WorldTurns w w' p → StaysReached 
 stays_reached w w' p t s h r =
     elim t.turn [
       | inl k ↦ (h, stayed s h w w' p r t k)
-      | inr k ↦ (h ++ Turned p k.turn ∷ [], turned s h w w' p r t k)
+      | inr k ↦ (h ++ Turned p k.turns.turn ∷ [], turned s h w w' p r t k)
     ]
 
 -- turns one after the other
@@ -160,20 +189,20 @@ TakeTurns-push ps p a b c t u = TakeTurns-append ps (p ∷ []) a b c t (c, u, re
 
 -- the world is ready after a turn, and after a refusal
 record Settles (old new : NodeView) : Type 0 where
-  setup : new.setup ≡ old.setup
+  part : new.part ≡ old.part
   waiting : new.waiting ≡ old.waiting
 
 settles : (m : Memory) (n : NodeView) (m' : Memory) (n' : NodeView) → n.waiting ≡ None → TakesTurn m n m' n' → Settles n n'
 settles m n m' n' idle t =
     elim t [
-      | inl k ↦ record { setup = ap (λ (x : NodeView). x.setup) k.node; waiting = ap (λ (x : NodeView). x.waiting) k.node }
-      | inr k ↦ record { setup = k.setup; waiting = k.waiting ∙ sym idle }
+      | inl k ↦ record { part = ap (λ (x : NodeView). x.part) k.node; waiting = ap (λ (x : NodeView). x.waiting) k.node }
+      | inr k ↦ record { part = k.turns.part; waiting = k.turns.waiting ∙ sym idle }
     ]
 
 ready_own : (among p : ℕ) (n n' : NodeView) → Settles n n' → IsReadyNode among p n → IsReadyNode among p n'
 ready_own among p n n' k r = record {
-  part = ap (λ (s : Setup). s.part) k.setup ∙ r.part;
-  count = ap (λ (s : Setup). s.count) k.setup ∙ r.count;
+  part = ap (λ (s : ScenarioPart). s.part) k.part ∙ r.part;
+  count = ap (λ (s : ScenarioPart). s.count) k.part ∙ r.count;
   idle = k.waiting ∙ r.idle;
 }
 
@@ -193,11 +222,22 @@ ready_turn w w' p r words t =
 
 ready_same : (w w' : World) (p : ℕ) → IsReady w → IsSameWorld w w' p → IsReady w'
 ready_same w w' p r t =
-    ready_by w w' p t.before t.after r (ap length t.words) t.was t.nodes (record { setup = t.same.setup; waiting = t.same.waiting })
+    ready_by w w' p t.before t.after r (ap length t.words) t.was t.nodes (record { part = ap (λ (x : NodeView). x.part) t.same.same; waiting = ap (λ (x : NodeView). x.waiting) t.same.same })
 
 -- a refusal keeps the history
+room_made : (n : NodeView) (room : ℕ) (ts : List Turn) → HasMade n ts → HasMade (record n { room = room }) ts
+room_made n room ts m = record {
+  runs = m.runs;
+  visited = m.visited;
+  state = m.state;
+  visit = m.visit;
+  entries = m.entries;
+  records = m.records;
+  steps = m.steps;
+}
+
 same_node : (s : Scenario) (h : List Event) (p : ℕ) (n n' : NodeView) → IsSameNode n n' → IsNodeOf s h p n → IsNodeOf s h p n'
-same_node s h p n n' k was = record { setup = k.setup ∙ was.setup; turns = k.turns ∙ was.turns; runs = was.runs }
+same_node s h p n n' k was = subst (IsNodeOf s h p) (sym k.same) (record { part = was.part; made = room_made n n'.room (turns_of p h) was.made })
 
 same_reached : (w w' : World) (p : ℕ) → IsSameWorld w w' p → StaysReached w w'
 same_reached w w' p t s h r =

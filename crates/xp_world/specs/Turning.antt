@@ -1,27 +1,22 @@
 -- One turn of a node over the words of all.
-use Rattle.std.specs.Prelude.{◌≡◌, ◌⊎◌, [], ◌∷◌, ◌++◌, None, ◌≤◌}
+use Rattle.std.specs.Prelude.{◌≡◌, ◌⊎◌, ◌≤◌, Option}
 use Rattle.xp_base.specs.Memory.{Memory}
-use Rattle.xp_base.specs.History.{Turn, IsAnswered, after_made}
-use Rattle.xp_rules.specs.Runs.{Runs}
-use Rattle.xp_node.specs.Node.{NodeView, IsEnded}
+use Rattle.xp_base.specs.History.{Marked, IsAnswered, after_made}
+use Rattle.xp_node.specs.Node.{NodeView, IsEnded, MakesTurn}
 
--- the same but for the room
+-- the same but for the room, of which there is no less
 pub record IsSameNode (old new : NodeView) : Type 0 where
-  pub setup : new.setup ≡ old.setup
-  pub turns : new.turns ≡ old.turns
-  pub waiting : new.waiting ≡ old.waiting
+  pub same : new ≡ record old { room = new.room }
   pub room : old.room ≤ new.room
 
--- the node makes one turn, whose step the words answer; the words after it are those that the step leaves
+-- the node makes one turn, whose step the words answer; the words after it are those that the step
+-- leaves
 pub record TurnsOnce (m : Memory) (n : NodeView) (m' : Memory) (n' : NodeView) : Type 0 where
   pub running : IsEnded n → ⊥
-  pub turn : Turn
-  pub answered : IsAnswered m turn.made
-  pub words : m' ≡ after_made m turn.made
-  pub turns : n'.turns ≡ n.turns ++ turn ∷ []
-  pub setup : n'.setup ≡ n.setup
-  pub waiting : n'.waiting ≡ None
-  pub runs : Runs n'.setup n'.turns
+  pub made : Option Marked
+  pub turns : MakesTurn n n' made
+  pub answered : IsAnswered m made
+  pub words : m' ≡ after_made m made
 
 -- the node has ended, and nothing happens
 pub record StaysEnded (m : Memory) (n : NodeView) (m' : Memory) (n' : NodeView) : Type 0 where

@@ -1,21 +1,21 @@
 -- Worlds that a history reaches, and the turns that lead from one world to another.
-use Rattle.std.specs.Prelude.{◌≡◌, ℕ, List, [], ◌∷◌, length, Some, None, slice_get, slice_set}
+use Rattle.std.specs.Prelude.{◌≡◌, ℕ, ◌<◌, List, [], ◌∷◌, length, Some, None, slice_get, slice_set}
+use Rattle.xp_base.specs.Memory.{Memory}
 use Rattle.xp_base.specs.History.{Event, turns_of}
 use Rattle.xp_script.specs.declared.scenario.Scenario.{Scenario}
-use Rattle.xp_rules.specs.Runs.{Runs}
-use Rattle.xp_rules.specs.Scenario.{setup_of, CanRun}
-use Rattle.xp_rules.specs.Reached.{ReachedWords, Follows, Scheduled}
-use Rattle.xp_rules.specs.Promised.{KeepsPromises}
-use Rattle.xp_rules.specs.Windows.{Windows}
-use Rattle.xp_node.specs.Node.{NodeView}
+use Rattle.xp_script.specs.Lawful.{IsLawful}
+use Rattle.xp_script.specs.Parts.{part_of}
+use Rattle.xp_protocol.specs.Reached.{ReachedWords, Follows, Scheduled}
+use Rattle.xp_records.specs.Promises.{Promises}
+use Rattle.xp_windows.specs.Windows.{Windows}
+use Rattle.xp_node.specs.Node.{NodeView, HasMade}
 use Rattle.xp_world.specs.declared.world.World.{World}
 use Rattle.xp_world.specs.Turning.{TakesTurn, IsSameNode}
 
--- a node is partition p of the scenario, with the turns of p in the history
+-- a node is partition p of the scenario, and has made the turns of p in the history
 pub record IsNodeOf (s : Scenario) (h : List Event) (p : ℕ) (n : NodeView) : Type 0 where
-  pub setup : n.setup ≡ setup_of s p
-  pub turns : n.turns ≡ turns_of p h
-  pub runs : Runs (setup_of s p) (turns_of p h)
+  pub part : n.part ≡ part_of s p
+  pub made : HasMade n (turns_of p h)
 
 -- the history leads to the words of the world, and its nodes are the partitions with their turns
 pub record Reached (s : Scenario) (h : List Event) (w : World) : Type 0 where
@@ -23,36 +23,36 @@ pub record Reached (s : Scenario) (h : List Event) (w : World) : Type 0 where
   pub count : length w.nodes.items ≡ s.count
   pub nodes : (p : ℕ) (n : NodeView) → slice_get w.nodes.items p ≡ Some n → IsNodeOf s h p n
 
+-- all that is promised of a history: and each partition has done what it owes within each window of
+-- its turns
+pub record Promised (s : Scenario) (h : List Event) (m : Memory) : Type 0 where
+  pub promises : Promises s h m
+  pub windows : (p : ℕ) → p < s.count → Windows (part_of s p) (turns_of p h)
+
 -- the history that reaches the world has turns of these partitions, in this order, those of ended ones left out
 abbrev pub Reaches : Scenario → List ℕ → World → Type 0
 Reaches s ps w = (h : List Event) × Reached s h w × Follows s [] ps h
-
--- each node has done what it owes within each window of its turns
-abbrev pub KeepWindows : List NodeView → Type 0
-KeepWindows ns = (p : ℕ) (n : NodeView) → slice_get ns p ≡ Some n → Windows n.setup n.turns
 
 -- a history with the written turns of the scenario reaches the world, and all that is promised of a history holds of it
 pub record Replayed (s : Scenario) (w : World) : Type 0 where
   pub history : List Event
   pub reached : Reached s history w
   pub scheduled : Scheduled s history
-  pub promises : KeepsPromises s history
-  pub windows : KeepWindows w.nodes.items
+  pub promised : Promised s history w.words
 
 -- node k is of partition k among as many as there are nodes, and no step waits
 pub record IsReadyNode (among k : ℕ) (n : NodeView) : Type 0 where
-  pub part : n.setup.part ≡ k
-  pub count : n.setup.count ≡ among
+  pub part : n.part.part ≡ k
+  pub count : n.part.count ≡ among
   pub idle : n.waiting ≡ None
 
 pub record IsReady (w : World) : Type 0 where
   pub words : length w.words ≡ length w.nodes.items
   pub nodes : (k : ℕ) (n : NodeView) → slice_get w.nodes.items k ≡ Some n → IsReadyNode (length w.nodes.items) k n
 
--- node p is partition p of the scenario, without turns
+-- node p is partition p of the scenario, before its first turn
 pub record IsNewNode (s : Scenario) (p : ℕ) (n : NodeView) : Type 0 where
-  pub setup : n.setup ≡ setup_of s p
-  pub turns : n.turns ≡ []
+  pub node : IsNodeOf s [] p n
   pub waiting : n.waiting ≡ None
 
 abbrev pub AreNew : Scenario → List NodeView → Type 0
@@ -79,10 +79,12 @@ pub record IsSameWorld (old new : World) (p : ℕ) : Type 0 where
 abbrev pub StaysReached : World → World → Type 0
 StaysReached old new = (s : Scenario) (h : List Event) → Reached s h old → (g : List Event) × Reached s g new
 
--- where some history of a lawful scenario that the rules can run reaches the one, some history reaches the other, and all
+-- where some history of a lawful scenario reaches the one, some history reaches the other, and all
 -- that is promised of a history holds of it
 abbrev pub StaysPromised : World → World → Type 0
-StaysPromised old new = (s : Scenario) (h : List Event) → CanRun s → Reached s h old → (g : List Event) × Reached s g new × KeepsPromises s g
+StaysPromised old new =
+    (s : Scenario) (h : List Event) → IsLawful s → Reached s h old →
+    (g : List Event) × Reached s g new × Promised s g new.words
 
 -- these partitions take a turn, one after the other
 abbrev pub TakeTurns : List ℕ → World → World → Type 0

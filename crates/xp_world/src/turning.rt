@@ -3,10 +3,10 @@ ghost use Rattle.std.specs.Prelude.{◌≡◌, ◌<◌, length, OnOk, OnErr, Non
 ghost use Rattle.xp_base.specs.declared.layout.TheConstants.{PART_WORDS};
 ghost use Rattle.xp_base.specs.Memory.{word_at, answer_of, memory_after};
 ghost use Rattle.xp_base.specs.History.{IsAnswer, after_answer};
-ghost use Rattle.xp_rules.specs.Setup.{fails_at};
-ghost use Rattle.xp_rules.specs.Runs.{is_failed};
-ghost use Rattle.xp_node.specs.Node.{IsStep};
-ghost use Rattle.xp_world.specs.Turning.{TakesTurn, IsSameNode};
+ghost use Rattle.xp_protocol.specs.Parts.{fails_at};
+ghost use Rattle.xp_protocol.specs.Runs.{is_failed};
+ghost use Rattle.xp_node.specs.Node.{IsStep, IsEnded};
+ghost use Rattle.xp_world.specs.Turning.{TakesTurn, TurnsOnce, IsSameNode};
 
 use std::alloc::AllocError;
 use xp_base::step::{Answer, CopyMark, Op, OpKind, Wanted};
@@ -45,7 +45,7 @@ fn perform(words: &mut Words, op: Op) -> u64
 
 // Whether a step with this mark, where it has one, is a load that is to fail.
 fn is_to_fail(node: &Node, mark: Option<CopyMark>) -> bool
-    ensures { result ≡ fails_at node.now.setup mark }
+    ensures { result ≡ fails_at node.now.part mark }
 {
     match mark {
         Some(mark) => node.fails(mark),
@@ -55,11 +55,11 @@ fn is_to_fail(node: &Node, mark: Option<CopyMark>) -> bool
 
 // Answers the step that a node wants: a load that is to fail touches no word.
 fn answer(words: &mut Words, node: &Node, wanted: Wanted) -> Answer
-    requires step { IsStep node.now.setup wanted }
-    requires count { node.now.setup.count ≡ length words.old }
+    requires step { IsStep node.now.part wanted }
+    requires count { node.now.part.count ≡ length words.old }
     ensures words { words.new ≡ after_answer words.old wanted.op result }
     ensures answer { IsAnswer words.old wanted.op result }
-    ensures failed { is_failed result ≡ fails_at node.now.setup wanted.mark }
+    ensures failed { is_failed result ≡ fails_at node.now.part wanted.mark }
     ensures count { length words.new ≡ length words.old }
 {
     if is_to_fail(node, wanted.mark) {
@@ -69,9 +69,26 @@ fn answer(words: &mut Words, node: &Node, wanted: Wanted) -> Answer
     }
 }
 
+// One turn of a node that hasn't ended and has room for it.
+#[tactic(auto, using(crate::proofs::Turned::turned))]
+fn make_turn(words: &mut Words, node: &mut Node)
+    requires count { node.old.part.count ≡ length words.old }
+    requires room { 0 < node.old.room }
+    requires running { IsEnded node.old → ⊥ }
+    requires idle { node.old.waiting ≡ None }
+    ensures turns { TurnsOnce words.old node.old words.new node.new }
+    ensures count { length words.new ≡ length words.old }
+{
+    if let Some(wanted) = node.next() {
+        let given = answer(words, node, wanted);
+        node.feed(given);
+    }
+}
+
 /// One turn of a node over the words of its partitions; nothing where it has ended.
+#[tactic(auto, using(crate::proofs::Turned::taken))]
 pub fn turn_node(words: &mut Words, node: &mut Node) -> Result<(), AllocError>
-    requires count { node.old.setup.count ≡ length words.old }
+    requires count { node.old.part.count ≡ length words.old }
     requires idle { node.old.waiting ≡ None }
     ensures ok { OnOk result (TakesTurn words.old node.old words.new node.new) }
     ensures err { OnErr result (IsSameNode node.old node.new) }
@@ -82,11 +99,6 @@ pub fn turn_node(words: &mut Words, node: &mut Node) -> Result<(), AllocError>
         return Ok(());
     }
     node.reserve_turn()?;
-    if let Some(wanted) = node.next() {
-        let given = answer(words, node, wanted);
-        node.feed(given);
-    }
-    // That the turns run by the rules is told by the node's count of them.
-    let _ = node.turns();
+    make_turn(words, node);
     Ok(())
 }

@@ -2,19 +2,19 @@
 ghost use Rattle.std.specs.Prelude.{◌≡◌, ◌<◌, [], length, replicate, IfOk, OnOk, OnErr};
 ghost use Rattle.std.specs.List.{AllByRecursion};
 ghost use Rattle.xp_script.specs.Lawful.{IsLawful, IsLawfulPlan};
-ghost use Rattle.xp_script.specs.Built.{IsBuilt};
 ghost use Rattle.xp_script.specs.Totals.{plans_of};
 ghost use Rattle.xp_script.specs.Turns.{one_round, some_rounds, plan_parts, written_plans};
-ghost use Rattle.xp_world.specs.World.{Reached, Replayed, KeepWindows, AreNew, IsReady, WorldTurns, IsSameWorld, StaysReached, StaysPromised, TakeTurns};
+ghost use Rattle.xp_world.specs.World.{Reached, Replayed, AreNew, IsReady, WorldTurns, IsSameWorld, StaysReached, StaysPromised, TakeTurns};
 
 use crate::turning::turn_node;
 use std::alloc::{AllocError, Global};
 use xp_base::ids::PartId;
 use xp_base::words::Words;
-use xp_laws::promises::promises_kept;
 use xp_node::node::Node;
+use xp_records::records::all_promised;
 use xp_script::scenario::Scenario;
 use xp_script::schedule::{Plan, Schedule};
+use xp_windows::duties::visits_serve;
 
 /// The partitions of a scenario and the words of their memories.
 #[derive(Drop)]
@@ -26,8 +26,7 @@ pub struct World {
 impl World {
     /// The world before the first turn.
     pub fn open(alloc: Global, scenario: &Scenario) -> Result<World, AllocError>
-        requires lawful { IsLawful scenario.now }
-        requires built { IsBuilt scenario.now }
+        requires { IsLawful scenario.now }
         ensures reached { IfOk result (λ world. Reached scenario.now [] world) }
         ensures ready { IfOk result (λ world. IsReady world) }
     {
@@ -48,7 +47,8 @@ impl World {
         ensures ready { IsReady self.new }
         ensures count { length self.new.nodes.items ≡ length self.old.nodes.items }
     {
-        promises_kept();
+        all_promised();
+        visits_serve();
         turn_node(&mut self.words, &mut self.nodes[part.get() as usize])
     }
 
@@ -141,32 +141,21 @@ impl World {
     /// The world after the turns of the schedule, or after none where there is no schedule. Its
     /// history keeps all that is promised.
     pub fn replay(alloc: Global, scenario: &Scenario) -> Result<World, AllocError>
-        requires lawful { IsLawful scenario.now }
-        requires built { IsBuilt scenario.now }
+        requires { IsLawful scenario.now }
         ensures replayed { IfOk result (λ world. Replayed scenario.now world) }
         ensures ready { IfOk result (λ world. IsReady world) }
     {
-        promises_kept();
+        all_promised();
+        visits_serve();
         let mut world = World::open(alloc, scenario)?;
         world.follow_written(&scenario.schedule)?;
-        windows_kept(&world.nodes);
         Ok(world)
-    }
-}
-
-// That each node has done what it owes within each window of its turns; every node tells it with the count of its turns.
-fn windows_kept(nodes: &[Node])
-    ensures { KeepWindows nodes.now }
-{
-    for node in nodes {
-        let _ = node.turns();
     }
 }
 
 // The partitions of a scenario, before their first turns.
 fn new_nodes(alloc: Global, scenario: &Scenario) -> Result<Vec<Node>, AllocError>
-    requires lawful { IsLawful scenario.now }
-    requires built { IsBuilt scenario.now }
+    requires { IsLawful scenario.now }
     ensures nodes { IfOk result (λ nodes. AreNew scenario.now nodes.items) }
     ensures count { IfOk result (λ nodes. length nodes.items ≡ scenario.now.count) }
 {

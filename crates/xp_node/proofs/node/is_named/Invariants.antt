@@ -1,5 +1,5 @@
 use Rattle.std.proofs.Common.{◌≡◌, drop}
-use Rattle.xp_rules.specs.Setup.{is_among}
+use Rattle.xp_protocol.specs.Parts.{is_among}
 use Rattle.xp_node.proofs.node.is_named.Given as goal
 
 abbrev pub invariant-loop-fault : goal.invariant-loop-fault

@@ -1,6 +1,6 @@
 use Rattle.std.proofs.Common.{◌≡◌, ℕ, ◌+◌, List, [], ◌∷◌, ◌++◌, length, ap, sym, ◌∙◌, subst}
 use Rattle.std.proofs.lemmas.List.{length_push}
-use Rattle.xp_rules.specs.Scenario.{setup_of}
+use Rattle.xp_script.specs.Parts.{part_of}
 use Rattle.xp_node.specs.Node.{NodeView}
 use Rattle.xp_world.specs.World.{IsNewNode, AreNew}
 use Rattle.xp_world.proofs.Each.{each_after_push}
@@ -13,8 +13,10 @@ loop-number-preserved c =
     let n = c.in_ok-node.node in
     let place : c.known.result ≡ length old = c.known.ensures ∙ sym c.loop-number.invariant.count in
     let new : IsNewNode s (length old) n = record {
-      setup = c.in_ok-node.ensures.setup ∙ ap (setup_of s) place;
-      turns = c.in_ok-node.ensures.turns;
+      node = record {
+        part = c.in_ok-node.ensures.part ∙ ap (part_of s) place;
+        made = c.in_ok-node.ensures.made;
+      };
       waiting = c.in_ok-node.ensures.waiting;
     } in
     let items = c.in_ok-push.ensures.items in

@@ -1,8 +1,8 @@
 use Rattle.std.proofs.Common.{ℕ, List, [], refl, subst}
 use Rattle.xp_script.specs.Totals.{plans_of}
 use Rattle.xp_script.specs.Turns.{written_plans, written}
-use Rattle.xp_world.specs.World.{Reaches, TakeTurns, KeepWindows}
-use Rattle.xp_node.specs.Node.{NodeView}
+use Rattle.xp_world.specs.World.{Reaches, TakeTurns}
+use Rattle.xp_world.proofs.Promising.{promised}
 use Rattle.xp_world.proofs.Worlds.{reaches_turns}
 use Rattle.xp_world.proofs.world.World.replay.Goals as goal
 
@@ -17,6 +17,5 @@ returns-clause-replayed c =
       history = reaches.0;
       reached = reaches.1;
       scheduled = reaches.2;
-      promises = c.promises_kept.ensures s (record { lawful = c.requires.lawful; built = c.requires.built; calm = c.requires.built.settings.pokes }) reaches.0 new.words reaches.1.words;
-      windows = subst (λ (ns : List NodeView). KeepWindows ns) c.deref.ensures.value c.windows_kept.ensures;
+      promised = promised c.all_promised.ensures c.visits_serve.ensures s reaches.0 new c.requires reaches.1;
     }

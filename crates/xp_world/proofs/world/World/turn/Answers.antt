@@ -3,6 +3,7 @@ use Rattle.std.specs.Vec.{with_item}
 use Rattle.std.proofs.lemmas.Option.{slice_get_read}
 use Rattle.xp_world.specs.declared.world.World.{World}
 use Rattle.xp_world.specs.World.{StaysReached}
+use Rattle.xp_world.proofs.Promising.{stays_promised}
 use Rattle.xp_world.proofs.Worlds.{turned_on, same_on, reached_on, ready_on}
 use Rattle.xp_world.proofs.world.World.turn.Goals as goal
 
@@ -20,7 +21,7 @@ returns-clause-reached c =
     reached_on r w w' p (turned_on r w w' p before after was nodes c.turn_node.ensures.ok) (same_on r w w' p before after was nodes c.turn_node.ensures.err c.turn_node.ensures.err_words)
 
 pub returns-clause-promised : goal.returns-clause-promised
-returns-clause-promised c s h lawful reach =
+returns-clause-promised c =
     let w = c.args.self.now in
     let r = c.turn_node.result in
     let p = c.args.part in
@@ -31,8 +32,7 @@ returns-clause-promised c s h lawful reach =
     let was = slice_get_read w.nodes.items (length w.nodes.items) p before refl c.requires.part value in
     let nodes : w'.nodes.items ≡ set w.nodes.items p after = ap (λ (i : ℕ). set w.nodes.items i after) c.get.ensures.value in
     let stays : StaysReached w w' = reached_on r w w' p (turned_on r w w' p before after was nodes c.turn_node.ensures.ok) (same_on r w w' p before after was nodes c.turn_node.ensures.err c.turn_node.ensures.err_words) in
-    let found = stays s h reach in
-    (found.0, found.1, c.promises_kept.ensures s lawful found.0 w'.words found.1.words)
+    stays_promised c.all_promised.ensures c.visits_serve.ensures w w' stays
 
 pub returns-clause-ready : goal.returns-clause-ready
 returns-clause-ready c =
