@@ -1,12 +1,13 @@
 // Which lawful scenarios the rules of today can run.
-ghost use Rattle.std.specs.Prelude.{◌≡◌, ℕ, ◌<◌, ◌↔◌, length, IsTrue};
+ghost use Rattle.std.specs.Prelude.{◌≡◌, ◌≢◌, ℕ, ◌<◌, ◌↔◌, length, IsTrue};
 ghost use Rattle.std.specs.List.{AllByRecursion};
 ghost use Rattle.xp_script.specs.Lawful.{IsLawful};
-ghost use Rattle.xp_script.specs.Built.{HasBuiltBoots, HasBuiltSettings, IsBuilt, IsBuiltCommand, IsBuiltWarm};
+ghost use Rattle.xp_lawful.specs.Built.{HasBuiltSettings, IsBuilt, IsBuiltCommand, IsBuiltPart, IsBuiltWarm};
+ghost use Rattle.xp_script.specs.declared.limits.TheConstants.{DEVICE_CHANNEL};
 
-use xp_base::ids::PartId;
+use xp_base::ids::{Channel, PartId};
 use xp_script::command::Command;
-use xp_script::limits::{BUILT_PARTS, BUILT_SCRIPTS, DEVICE_CHANNEL};
+use xp_script::limits::DEVICE_CHANNEL;
 use xp_script::scenario::Scenario;
 use xp_script::script::Script;
 use xp_script::setting::Warm;
@@ -16,25 +17,20 @@ pub fn is_built(scenario: &Scenario) -> bool
     requires { IsLawful scenario.now }
     ensures { IsTrue result ↔ IsBuilt scenario.now }
 {
-    scenario.count.get() <= BUILT_PARTS && has_built_settings(scenario) && are_built_parts(scenario)
+    has_built_settings(scenario) && are_built_parts(scenario)
 }
 
 fn has_built_settings(scenario: &Scenario) -> bool
     ensures { IsTrue result ↔ HasBuiltSettings scenario.now }
 {
-    scenario.check == 0
-        && scenario.minors.list.is_empty()
-        && are_built_warms(&scenario.warms.list)
-        && scenario.stops.list.is_empty()
-        && scenario.restarts.list.is_empty()
-        && scenario.pokes.list.is_empty()
+    scenario.check == 0 && are_built_warms(&scenario.warms.list) && scenario.pokes.list.is_empty()
 }
 
 fn are_built_warms(warms: &[Warm]) -> bool
     ensures { IsTrue result ↔ AllByRecursion IsBuiltWarm warms.now }
 {
     for warm in warms {
-        if warm.channel.get() == DEVICE_CHANNEL {
+        if !is_built_channel(warm.channel) {
             return false;
         }
     }
@@ -44,23 +40,22 @@ fn are_built_warms(warms: &[Warm]) -> bool
 // Whether the scripts of each partition are built.
 fn are_built_parts(scenario: &Scenario) -> bool
     requires { length scenario.now.scripts ≡ scenario.now.count }
-    ensures { IsTrue result ↔ ((p : ℕ) → p < scenario.now.count → HasBuiltBoots scenario.now p) }
+    ensures { IsTrue result ↔ ((p : ℕ) → p < scenario.now.count → IsBuiltPart scenario.now p) }
 {
     let end = scenario.count.get();
     for part in 0..end {
-        if !has_built_boots(scenario, PartId::known(part)) {
+        if !is_built_part(scenario, PartId::known(part)) {
             return false;
         }
     }
     true
 }
 
-fn has_built_boots(scenario: &Scenario, part: PartId) -> bool
+fn is_built_part(scenario: &Scenario, part: PartId) -> bool
     requires { part < length scenario.now.scripts }
-    ensures { IsTrue result ↔ HasBuiltBoots scenario.now part }
+    ensures { IsTrue result ↔ IsBuiltPart scenario.now part }
 {
-    let boots = &scenario.scripts.list[part.get() as usize];
-    boots.list.len() <= BUILT_SCRIPTS && are_built_boots(&boots.list)
+    are_built_boots(&scenario.scripts.list[part.get() as usize].list)
 }
 
 fn are_built_boots(boots: &[Script]) -> bool
@@ -89,10 +84,19 @@ fn is_built_command(command: &Command) -> bool
     ensures { IsTrue result ↔ IsBuiltCommand command.now }
 {
     match command {
-        Command::Send { .. } => true,
-        Command::Take { .. } => true,
-        Command::Release { .. } => true,
-        Command::Drain { channel, .. } => channel.get() != DEVICE_CHANNEL,
-        _ => false,
+        Command::Register { channel, .. } => is_built_channel(*channel),
+        Command::Unregister { channel, .. } => is_built_channel(*channel),
+        Command::Connected { channel, .. } => is_built_channel(*channel),
+        Command::Closed { channel, .. } => is_built_channel(*channel),
+        Command::Drain { channel, .. } => is_built_channel(*channel),
+        Command::Net { .. } | Command::Frames { .. } | Command::Offline | Command::Online => false,
+        _ => true,
     }
+}
+
+// The network device isn't built.
+fn is_built_channel(channel: Channel) -> bool
+    ensures { IsTrue result ↔ (channel ≢ DEVICE_CHANNEL) }
+{
+    channel.get() != DEVICE_CHANNEL
 }

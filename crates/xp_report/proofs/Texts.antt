@@ -12,3 +12,9 @@ after mid old x new y e h = h ∙ ap (λ (m : List ℕ). m ++ y) e ∙ append_as
 -- three texts
 pub joined3 : {T E : Type 0} (r : Result T E) (new m2 m1 old x y w z : List ℕ) → m1 ≡ old ++ x → m2 ≡ m1 ++ y → OnOk r (new ≡ m2 ++ w) → x ++ (y ++ w) ≡ z → OnOk r (new ≡ old ++ z)
 joined3 r new m2 m1 old x y w z e f h g = joined r new m2 old (x ++ y) w z (after m1 old x m2 y e f) h (append_assoc x y w ∙ g)
+
+-- four texts
+pub joined4 : {T E : Type 0} (r : Result T E) (new m3 m2 m1 old x y w v z : List ℕ) → m1 ≡ old ++ x → m2 ≡ m1 ++ y → m3 ≡ m2 ++ w → OnOk r (new ≡ m3 ++ v) → x ++ (y ++ (w ++ v)) ≡ z → OnOk r (new ≡ old ++ z)
+joined4 r new m3 m2 m1 old x y w v z e f g h i =
+    joined3 r new m3 m1 old x (y ++ w) v z e (after m2 m1 y m3 w f g) h
+    (ap (λ t. x ++ t) (append_assoc y w v) ∙ i)

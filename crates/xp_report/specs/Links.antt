@@ -4,7 +4,7 @@ use Rattle.std.specs.Fmt.{decimal}
 use Rattle.xp_base.specs.declared.reason.Reason.{Reason}
 use Rattle.xp_base.specs.Reasons.{reason_text}
 use Rattle.xp_base.specs.Show.{◌⧺◌}
-use Rattle.xp_rules.specs.Records.{Recorded}
+use Rattle.xp_protocol.specs.Records.{Recorded}
 use Rattle.xp_report.specs.Lines.{line_end}
 
 -- which connection a record is of: the partner, the channel, the epoch, and the sessions of both
@@ -35,10 +35,13 @@ unfoldable pub over_text : Recorded → Reason → List ℕ
 over_text r reason =
     codes "  over " ⧺ connection_text r ⧺ codes " " ⧺ reason_text reason ⧺ line_end
 
--- the lines of a connection that was connected; once a device hands up frames, a line of each of
--- them follows here
+-- the lines of the frames that were handed up: none, since there is no network device
+abbrev pub frames_text : Recorded → List ℕ
+frames_text r = []
+
+-- the lines of a connection that was connected
 abbrev pub connected_text : Recorded → List ℕ
-connected_text r = if r.connected then (link_text r) else []
+connected_text r = if r.connected then (link_text r ⧺ frames_text r) else []
 
 -- the line of a connection's end, where it has ended
 abbrev pub end_text : Recorded → Option Reason → List ℕ

@@ -1,14 +1,14 @@
 -- The summary: one line that says what came of all connections of all partitions together.
-use Rattle.std.specs.Prelude.{ℕ, ◌+◌, ◌<◌, ◌^◌, Bool, true, false, List, [], ◌∷◌, length, count_by, codes, Option, Some}
+use Rattle.std.specs.Prelude.{ℕ, zero, suc, ◌+◌, Bool, true, false, List, [], ◌∷◌, length, count_by, codes, Option, Some}
 use Rattle.std.specs.Fmt.{decimal}
 use Rattle.xp_base.specs.Show.{◌⧺◌}
-use Rattle.xp_rules.specs.Records.{Recorded}
-use Rattle.xp_node.specs.declared.turns.Ended.{Ended}
-use Rattle.xp_node.specs.declared.turns.Ended.TheVariants.{Done}
-use Rattle.xp_node.specs.Node.{NodeView, log_of}
+use Rattle.xp_protocol.specs.Records.{Recorded}
+use Rattle.xp_node.specs.declared.ended.Ended.{Ended}
+use Rattle.xp_node.specs.declared.ended.Ended.TheVariants.{Done}
+use Rattle.xp_node.specs.Node.{NodeView, ended_of}
 use Rattle.xp_report.specs.declared.summary.Totals.{Totals}
 use Rattle.xp_report.specs.Lines.{line_end}
-use Rattle.xp_report.specs.Report.{ended_of}
+use Rattle.xp_report.specs.Begun.{begun_with}
 
 abbrev pub no_totals : Totals
 no_totals = record { accepted = 0; taken = 0; acked = 0; delivered = 0 }
@@ -34,17 +34,19 @@ abbrev pub records_totals : List Recorded → Totals
 records_totals [] = no_totals
 records_totals (r ∷ more) = plus (record_totals r) (records_totals more)
 
--- what came of all connections of some nodes
+-- what came of the connections of a node to some partners: from one on, so many
+unfoldable pub partners_totals : NodeView → ℕ → ℕ → Totals
+partners_totals n q zero = no_totals
+partners_totals n q (suc more) =
+    plus (records_totals (begun_with n q)) (partners_totals n (q + 1) more)
+
+-- what came of all its connections, and of all connections of some nodes
+abbrev pub node_totals : NodeView → Totals
+node_totals n = partners_totals n 0 n.part.count
+
 abbrev pub totals_of : List NodeView → Totals
 totals_of [] = no_totals
-totals_of (n ∷ more) = plus (records_totals (log_of n).records) (totals_of more)
-
--- each sum is a number of 64 bits
-pub record AreCounts (t : Totals) : Type 0 where
-  pub accepted : t.accepted < 2 ^ 64
-  pub taken : t.taken < 2 ^ 64
-  pub acked : t.acked < 2 ^ 64
-  pub delivered : t.delivered < 2 ^ 64
+totals_of (n ∷ more) = plus (node_totals n) (totals_of more)
 
 abbrev pub is_done : Option Ended → Bool
 is_done (Some Done) = true

@@ -1,10 +1,10 @@
-// The line of a partition.
+// The lines of a partition itself.
 ghost use Rattle.std.specs.Prelude.{◌≡◌};
 ghost use Rattle.xp_report.specs.Lines.{Appends};
-ghost use Rattle.xp_report.specs.Report.{state_text, head_text};
+ghost use Rattle.xp_report.specs.Report.{state_text, head_text, pool_text};
 
 use std::alloc::AllocError;
-use xp_node::turns::Ended;
+use xp_node::ended::Ended;
 
 /// How a partition stands, as one word.
 fn state_name(ended: Option<Ended>) -> &'static str
@@ -30,4 +30,16 @@ pub fn write_head(
 {
     let state = state_name(ended);
     writeln!(out, "partition {part} {state} boots {boots}")
+}
+
+/// Writes how many buffers of the network device are in use, where any is.
+#[tactic(auto, unfolding(crate::specs::Report::pool_text))]
+pub fn write_pool(out: &mut String, in_use: u8) -> Result<(), AllocError>
+    ensures { Appends result out.old out.new (pool_text in_use) }
+{
+    if in_use > 0 {
+        writeln!(out, "  pool {in_use}")
+    } else {
+        Ok(())
+    }
 }

@@ -7,5 +7,6 @@ pub mod device;
 pub mod head;
 pub mod links;
 pub mod log;
+pub mod order;
 pub mod summary;
 pub mod text;

@@ -1,15 +1,18 @@
 // The summary: one line that says what came of all connections together.
-ghost use Rattle.std.specs.Prelude.{◌≡◌, IfOk, Some, map};
-ghost use Rattle.xp_rules.specs.Records.{seen};
+ghost use Rattle.std.specs.Prelude.{◌≡◌, ◌<◌, ◌+◌, IfOk, OnOk, None, Some, map};
+ghost use Rattle.xp_connections.specs.Page.{said_of};
 ghost use Rattle.xp_report.specs.Lines.{Appends};
-ghost use Rattle.xp_report.specs.Report.{AreIdle};
-ghost use Rattle.xp_report.specs.Summary.{no_totals, plus, record_totals, records_totals, totals_of, AreCounts, done_of, is_done, totals_text, summary_text, summary_of};
+ghost use Rattle.xp_report.specs.Begun.{begun_with};
+ghost use Rattle.xp_report.specs.Report.{AreNodes};
+ghost use Rattle.xp_report.specs.Summary.{no_totals, plus, record_totals, records_totals, node_totals, totals_of, done_of, is_done, totals_text, summary_text, summary_of};
 
 use std::alloc::{AllocError, Global};
 use std::fmt;
+use xp_base::ids::{Channel, PartId};
+use xp_base::layout::CHANNELS;
+use xp_connections::record::Record;
+use xp_node::ended::Ended;
 use xp_node::node::Node;
-use xp_node::turns::Ended;
-use xp_rules::records::Record;
 
 /// What came of some connections together: how many messages were accepted and taken, the sum of
 /// the gets that were stored last, and of how many messages the delivery was told.
@@ -34,24 +37,60 @@ impl Totals {
     }
 
     // Counts what came of one more connection.
-    fn add(&mut self, connection: &Record)
-        requires { AreCounts (plus self.old (record_totals (seen connection.now))) }
-        ensures { self.new ≡ plus self.old (record_totals (seen connection.now)) }
+    fn add(&mut self, connection: &Record) -> Result<(), AllocError>
+        ensures { OnOk result
+            (self.new ≡ plus self.old (record_totals (said_of connection.now))) }
     {
-        self.accepted += connection.accepted.len() as u64;
-        self.taken += connection.taken.len() as u64;
-        self.acked += connection.acked;
-        self.delivered += connection.delivered.len() as u64;
+        self.accepted = sum(self.accepted, connection.accepted.len())?;
+        self.taken = sum(self.taken, connection.taken.len())?;
+        self.acked = sum(self.acked, connection.acked)?;
+        self.delivered = sum(self.delivered, connection.delivered.len())?;
+        Ok(())
     }
 
     // Counts what came of some more connections.
-    fn add_all(&mut self, connections: &[Record])
-        requires { AreCounts (plus self.old (records_totals (map seen connections.now))) }
-        ensures { self.new ≡ plus self.old (records_totals (map seen connections.now)) }
+    fn add_all(&mut self, connections: &[Record]) -> Result<(), AllocError>
+        ensures { OnOk result
+            (self.new ≡ plus self.old (records_totals (map said_of connections.now))) }
     {
         for connection in connections {
-            self.add(connection);
+            self.add(connection)?;
         }
+        Ok(())
+    }
+
+    // Counts what came of the connections of a node to a partner.
+    fn add_partner(&mut self, node: &Node, partner: PartId) -> Result<(), AllocError>
+        requires partner { partner < node.now.part.count }
+        requires idle { node.now.waiting ≡ None }
+        ensures { OnOk result
+            (self.new ≡ plus self.old (records_totals (begun_with node.now partner))) }
+    {
+        for channel in 0..CHANNELS {
+            self.add_all(node.records(partner, Channel::known(channel)))?;
+        }
+        Ok(())
+    }
+
+    // Counts what came of all connections of a node.
+    fn add_node(&mut self, node: &Node) -> Result<(), AllocError>
+        requires { node.now.waiting ≡ None }
+        ensures { OnOk result (self.new ≡ plus self.old (node_totals node.now)) }
+    {
+        for partner in 0..node.count().get() {
+            self.add_partner(node, PartId::known(partner))?;
+        }
+        Ok(())
+    }
+}
+
+// A sum, where it is a number of 64 bits: else as for want of memory.
+fn sum(count: u64, more: u64) -> Result<u64, AllocError>
+    ensures { IfOk result (λ sum. sum ≡ count + more) }
+{
+    match count.checked_add(more) {
+        Some(sum) => Ok(sum),
+        None => Err(AllocError),
     }
 }
 
@@ -69,15 +108,15 @@ impl fmt::Display for Totals {
 }
 
 // What came of all connections of some nodes.
-fn all_totals(nodes: &[Node]) -> Totals
-    requires { AreCounts (totals_of nodes.now) }
-    ensures { result ≡ totals_of nodes.now }
+fn all_totals(nodes: &[Node]) -> Result<Totals, AllocError>
+    requires { AreNodes nodes.now }
+    ensures { IfOk result (λ totals. totals ≡ totals_of nodes.now) }
 {
     let mut totals = Totals::none();
     for node in nodes {
-        totals.add_all(node.records());
+        totals.add_node(node)?;
     }
-    totals
+    Ok(totals)
 }
 
 fn is_done(ended: Option<Ended>) -> bool
@@ -88,7 +127,7 @@ fn is_done(ended: Option<Ended>) -> bool
 
 // How many nodes are done.
 fn done(nodes: &[Node]) -> u64
-    requires { AreIdle nodes.now }
+    requires { AreNodes nodes.now }
     ensures { result ≡ done_of nodes.now }
 {
     let mut done = 0;
@@ -114,13 +153,14 @@ fn write_summary(
 }
 
 /// The summary of the nodes that the scenario of a number led to: how many there are, what came of
-/// all their connections, and how many are done.
+/// all their connections, and how many are done. A sum that has more than 64 bits, which would take
+/// more turns than nodes can make, is answered as want of memory.
 pub fn summary(alloc: Global, n: u32, nodes: &[Node]) -> Result<Vec<u8>, AllocError>
-    requires idle { AreIdle nodes.now }
-    requires counts { AreCounts (totals_of nodes.now) }
+    requires { AreNodes nodes.now }
     ensures { IfOk result (λ text. text.items ≡ summary_of n nodes.now) }
 {
+    let totals = all_totals(nodes)?;
     let mut out = String::new(alloc);
-    write_summary(&mut out, n, nodes.len(), all_totals(nodes), done(nodes))?;
+    write_summary(&mut out, n, nodes.len(), totals, done(nodes))?;
     Ok(out.into_bytes())
 }

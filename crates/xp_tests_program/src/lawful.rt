@@ -136,7 +136,7 @@ fn fault(number: u8, copy: u64) -> Setting {
 #[test]
 fn versions_and_faults(rt: HostRuntime) -> Result<(), Fail> {
     let rows = [
-        (minor(2, 2), Judgement::Unbuilt),
+        (minor(2, 2), Judgement::Built),
         (minor(2, 3), Judgement::Unlawful),
         (minor(2, 0), Judgement::Unlawful),
         (minor(3, 1), Judgement::Unlawful),
@@ -176,10 +176,10 @@ fn poke(owner: u8, index: u32) -> Setting {
 #[test]
 fn moments_and_pokes(rt: HostRuntime) -> Result<(), Fail> {
     let rows = [
-        (stop(0, Moment::Put(1)), Judgement::Unbuilt),
+        (stop(0, Moment::Put(1)), Judgement::Built),
         (stop(0, Moment::Put(0)), Judgement::Unlawful),
         (stop(3, Moment::Turn(0)), Judgement::Unlawful),
-        (restart(2, Moment::Turn(0)), Judgement::Unbuilt),
+        (restart(2, Moment::Turn(0)), Judgement::Built),
         (restart(2, Moment::Put(0)), Judgement::Unlawful),
         (restart(3, Moment::Put(1)), Judgement::Unlawful),
         (poke(2, 36_431), Judgement::Unbuilt),
@@ -275,7 +275,7 @@ fn sizes_and_turns(rt: HostRuntime) -> Result<(), Fail> {
     }
     for (turns, wanted) in [
         (0, Judgement::Unlawful),
-        (1_000_000, Judgement::Unbuilt),
+        (1_000_000, Judgement::Built),
         (1_000_001, Judgement::Unlawful),
     ] {
         expect_command(&rt, rt.alloc(), Command::Idle { turns }, wanted)?;

@@ -1,7 +1,7 @@
 // What a node tells of its turns: of a first turn by itself, and of both partitions of a message after the replay.
 ghost use Rattle.std.specs.Prelude.{◌≡◌};
-ghost use Rattle.xp_rules.specs.Runs.{is_failed};
-ghost use Rattle.xp_rules.specs.Setup.{fails_at};
+ghost use Rattle.xp_protocol.specs.Runs.{is_failed};
+ghost use Rattle.xp_protocol.specs.Parts.{fails_at};
 
 use crate::tables::{Joined, Line, scenario};
 use std::alloc::{AllocError, Global};
@@ -44,17 +44,11 @@ fn expect_part(rt: &impl Abort, node: &Node, part: u8) {
     assert_eq!(rt; node.budget(), 1_000_000);
 }
 
-/// A node's steps that store and that set bits, its log, and what its record has accepted, taken and acknowledged.
-fn expect_turns(rt: &impl Abort, node: &Node, steps: (u64, u64), entries: usize, record: [u64; 3]) {
+/// A node's steps that store and that set bits, and the entries of its log.
+fn expect_turns(rt: &impl Abort, node: &Node, steps: (u64, u64), entries: usize) {
     assert_eq!(rt; counted(node.trace()), steps);
     assert!(rt; node.turns() >= node.trace().len() as u64);
     assert_eq!(rt; node.log().len(), entries);
-    let found = match node.record(0) {
-        Some(found) => [found.accepted.len(), found.taken.len(), found.acked],
-        None => [9; 3],
-    };
-    assert_eq!(rt; found, record);
-    assert!(rt; node.record(1).is_none() && node.records().len() == 1);
 }
 
 /// The sender stores 16 words and put; the receiver stores get. Each sets the other's message request once.
@@ -65,15 +59,15 @@ fn tells_of_its_turns(rt: HostRuntime) -> Result<(), Fail> {
     let world = World::replay(rt.alloc(), &scenario)?;
     assert_eq!(rt; world.nodes.len(), 2);
     expect_part(&rt, &world.nodes[0], 0);
-    expect_turns(&rt, &world.nodes[0], (17, 1), 1, [1, 0, 0]);
+    expect_turns(&rt, &world.nodes[0], (17, 1), 1);
     expect_part(&rt, &world.nodes[1], 1);
-    expect_turns(&rt, &world.nodes[1], (1, 1), 2, [0, 1, 1]);
+    expect_turns(&rt, &world.nodes[1], (1, 1), 2);
     Ok(())
 }
 
 /// The answer of a step that is wanted: a load that is planned to fail fails, and each other word is 0.
 fn answer_of(node: &Node, wanted: Wanted) -> Answer
-    ensures { is_failed result ≡ fails_at node.now.setup wanted.mark }
+    ensures { is_failed result ≡ fails_at node.now.part wanted.mark }
 {
     match wanted.mark {
         Some(mark) if node.fails(mark) => Answer::Failed,

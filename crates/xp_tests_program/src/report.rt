@@ -11,14 +11,14 @@ use xp_base::ids::{Channel, PartId};
 use xp_base::reason::Reason;
 use xp_base::session::Session;
 use xp_base::step::CopyKind;
-use xp_node::turns::Ended;
-use xp_report::head::write_head;
+use xp_connections::record::Record;
+use xp_node::ended::Ended;
+use xp_report::head::{write_head, write_pool};
 use xp_report::links::write_records;
 use xp_report::log::write_entries;
+use xp_report::order::sort_records;
 use xp_report::text::report;
-use xp_rules::records::Record;
 use xp_script::log::{Entry, LogAnswer, OnlineAnswer, Verb};
-use xp_script::part::Link;
 
 fn expect_log(rt: &impl Abort, alloc: Global, log: &[Entry], wanted: &str) -> Result<(), Fail> {
     let mut text = String::new(alloc);
@@ -348,81 +348,86 @@ fn transmits(rt: HostRuntime) -> Result<(), Fail> {
     expect_log(&rt, rt.alloc(), &log, wanted)
 }
 
-/// A record of a connection to a partner that opened connected.
-fn opened(alloc: Global, partner: PartId) -> Record {
-    let link = Link {
-        partner,
-        channel: Channel::known(0),
-        entries: 4,
-        limit: 112,
-    };
-    Record::opened(alloc, &link)
+/// A session of a boot.
+fn session(stamp: u32, count: u32) -> Session {
+    Session { stamp, count }
 }
 
 /// Adds empty messages: so many accepted, so many taken, and then the get that was stored.
 fn add_messages(
-    record: &mut Record,
+    connection: &mut Record,
     accepted: u64,
     taken: u64,
     acked: u64,
 ) -> Result<(), AllocError> {
     for number in 0..accepted.max(taken) {
-        record.reserve(1)?;
+        connection.reserve()?;
         if number < accepted {
-            record.accept(Body::empty());
+            connection.note_accepted(number, &Body::empty(), false);
         }
         if number < taken {
-            record.take(Body::empty());
+            connection.note_taken(&Body::empty());
         }
     }
-    record.acknowledge(acked);
+    connection.note_acked(acked);
     Ok(())
+}
+
+/// A connection that goes on.
+fn ongoing(alloc: Global) -> Result<Record, AllocError> {
+    let mut connection = Record::blank(alloc, PartId::known(0), Channel::known(0));
+    connection.begin(0, session(1, 1), session(1, 1));
+    connection.note_connected();
+    add_messages(&mut connection, 0, 5, 4)?;
+    Ok(connection)
 }
 
 /// A connection that ended: one message was told as delivered, and one that the connection ended first.
 fn ended(alloc: Global) -> Result<Record, AllocError> {
-    let mut record = opened(alloc, PartId::known(2));
-    add_messages(&mut record, 3, 2, 1)?;
-    record.reserve(1)?;
-    record.reserve_ended()?;
-    record.begin(
-        4,
-        Session { stamp: 5, count: 6 },
-        Session { stamp: 7, count: 8 },
-        true,
-    );
-    record.deliver(0);
-    record.end(2);
-    record.close(Reason::PartnerClosed { code: 1 });
-    Ok(record)
+    let mut connection = Record::blank(alloc, PartId::known(2), Channel::known(0));
+    connection.begin(4, session(5, 6), session(7, 8));
+    connection.note_connected();
+    add_messages(&mut connection, 3, 2, 1)?;
+    connection.reserve()?;
+    connection.note_delivered(0);
+    connection.note_ended(2);
+    connection.note_over(Reason::PartnerClosed { code: 1 });
+    Ok(connection)
 }
 
-/// A connection that never came about.
+/// A connection that ended before it was connected.
 fn refused(alloc: Global) -> Record {
-    let mut record = opened(alloc, PartId::known(3));
-    record.connected = false;
-    record.close(Reason::UnequalSizes {
+    let mut connection = Record::blank(alloc, PartId::known(3), Channel::known(0));
+    connection.begin(0, session(1, 1), session(1, 1));
+    connection.note_over(Reason::UnequalSizes {
         own: 16,
         theirs: 32,
     });
-    record
+    connection
 }
 
 fn some_records(alloc: Global) -> Result<Vec<Record>, AllocError> {
-    let mut open = opened(alloc, PartId::known(0));
-    add_messages(&mut open, 0, 5, 4)?;
     let mut records = Vec::new(alloc);
-    records.push(open)?;
+    records.push(ongoing(alloc)?)?;
     records.push(ended(alloc)?)?;
     records.push(refused(alloc))?;
     Ok(records)
+}
+
+/// The records of a list, lent.
+fn lent(alloc: Global, records: &[Record]) -> Result<Vec<&Record>, AllocError> {
+    let mut list = Vec::new(alloc);
+    for connection in records {
+        list.push(connection)?;
+    }
+    Ok(list)
 }
 
 #[test]
 fn records(rt: HostRuntime) -> Result<(), Fail> {
     let records = some_records(rt.alloc())?;
     let mut text = String::new(rt.alloc());
-    write_records(&mut text, &records)?;
+    write_records(&mut text, &lent(rt.alloc(), &records)?)?;
     let wanted =
         "  link 0 0 epoch 0 own 1.1 partner 1.1 accepted 0 taken 5 acked 4 delivered 0 ended 0
   link 2 0 epoch 4 own 5.6 partner 7.8 accepted 3 taken 2 acked 1 delivered 1 ended 1
@@ -433,13 +438,76 @@ fn records(rt: HostRuntime) -> Result<(), Fail> {
     Ok(())
 }
 
+/// A connection that was begun and ended: its channel, its epoch, the stamp and the count of its own
+/// session and of its partner's, and the code that its partner closed it with.
+type Past = (u8, u64, (u32, u32), (u32, u32), u8);
+
+/// Connections to a partner as they lie in a node: by channel, and for each channel as they were
+/// begun. The last two are equal in all but the code.
+const PAST: [Past; 9] = [
+    (0, 0, (1, 1), (1, 1), 1),
+    (0, 1, (1, 1), (1, 1), 2),
+    (0, 0, (1, 2), (2, 1), 3),
+    (0, 0, (2, 1), (1, 9), 4),
+    (2, 0, (1, 1), (1, 1), 5),
+    (2, 0, (2, 1), (1, 2), 6),
+    (2, 0, (1, 10), (3, 1), 7),
+    (2, 1, (1, 2), (2, 1), 9),
+    (2, 1, (1, 2), (2, 1), 8),
+];
+
+fn over(alloc: Global, past: &Past) -> Record {
+    let (channel, epoch, own, theirs, code) = *past;
+    let channel = Channel::new(channel).unwrap_or(Channel::known(3));
+    let mut connection = Record::blank(alloc, PartId::known(1), channel);
+    connection.begin(epoch, session(own.0, own.1), session(theirs.0, theirs.1));
+    connection.note_over(Reason::PartnerClosed { code });
+    connection
+}
+
+fn past_records(alloc: Global) -> Result<Vec<Record>, AllocError> {
+    let mut records = Vec::new(alloc);
+    for past in &PAST {
+        records.push(over(alloc, past))?;
+    }
+    Ok(records)
+}
+
+#[test]
+fn records_in_order(rt: HostRuntime) -> Result<(), Fail> {
+    let records = past_records(rt.alloc())?;
+    let mut list = lent(rt.alloc(), &records)?;
+    sort_records(&mut list)?;
+    let mut text = String::new(rt.alloc());
+    write_records(&mut text, &list)?;
+    let wanted = "  over 1 0 epoch 0 own 1.1 partner 1.1 partner-closed 1
+  over 1 0 epoch 1 own 1.1 partner 1.1 partner-closed 2
+  over 1 2 epoch 0 own 1.1 partner 1.1 partner-closed 5
+  over 1 0 epoch 0 own 1.2 partner 2.1 partner-closed 3
+  over 1 2 epoch 1 own 1.2 partner 2.1 partner-closed 9
+  over 1 2 epoch 1 own 1.2 partner 2.1 partner-closed 8
+  over 1 2 epoch 0 own 1.10 partner 3.1 partner-closed 7
+  over 1 2 epoch 0 own 2.1 partner 1.2 partner-closed 6
+  over 1 0 epoch 0 own 2.1 partner 1.9 partner-closed 4
+";
+    assert_eq!(rt; text.as_str(), wanted);
+    Ok(())
+}
+
 #[test]
 fn heads(rt: HostRuntime) -> Result<(), Fail> {
     let mut text = String::new(rt.alloc());
     write_head(&mut text, 0, Some(Ended::Done), 1)?;
-    write_head(&mut text, 7, None, 64)?;
+    write_pool(&mut text, 0)?;
+    write_head(&mut text, 1, Some(Ended::Stopped), 2)?;
+    write_pool(&mut text, 8)?;
+    write_head(&mut text, 2, Some(Ended::Halted { word: 9 }), 3)?;
+    write_head(&mut text, 63, None, 64)?;
     let wanted = "partition 0 done boots 1
-partition 7 running boots 64
+partition 1 stopped boots 2
+  pool 8
+partition 2 halted boots 3
+partition 63 running boots 64
 ";
     assert_eq!(rt; text.as_str(), wanted);
     Ok(())

@@ -212,16 +212,37 @@ fn scenarios_of_numbers(rt: HostRuntime) -> Result<(), Fail> {
     Ok(())
 }
 
-/// The scenarios of numbers open their channels, which isn't built.
+/// What the summary of a number says; nothing is read.
+fn expect_summary(
+    rt: &impl Abort,
+    alloc: Global,
+    number: &str,
+    summary: &[u8],
+) -> Result<(), Fail> {
+    let words = words(alloc, &["big", number])?;
+    let mut source = MemorySource::new(Vec::new(alloc), 1, vec![in alloc; 1u64]?);
+    let mut sink = WholeSink::new(alloc);
+    let done = plain(alloc, &words, &mut source, &mut sink);
+    assert!(rt; done.status == Status::Ok && done.end.is_some());
+    assert_eq!(rt; sink.bytes(), summary);
+    Ok(())
+}
+
+/// Each partition sends 100 messages, or 110, to its next one, and each of them is taken, released
+/// and told as delivered.
 #[test]
 fn summaries_of_numbers(rt: HostRuntime) -> Result<(), Fail> {
-    for number in ["0", "5"] {
-        let words = words(rt.alloc(), &["big", number])?;
-        let status = silent_status(rt.alloc(), &words, Vec::new(rt.alloc()));
-        assert!(rt;
-            status == Some(Status::BadInput(InputFault::Unbuilt)),
-            "{number}"
-        );
+    for (number, summary) in [
+        (
+            "0",
+            b"big 0 partitions 2 accepted 200 taken 200 acked 200 delivered 200 done 2\n".as_slice(),
+        ),
+        (
+            "000001",
+            b"big 1 partitions 3 accepted 330 taken 330 acked 330 delivered 330 done 3\n",
+        ),
+    ] {
+        expect_summary(&rt, rt.alloc(), number, summary)?;
     }
     Ok(())
 }
@@ -236,7 +257,7 @@ fn expect_no_scenario(rt: &impl Abort, alloc: Global, words: &[Word]) -> Result<
             b"xpsim 1\npartitions 2\nfrobnicate 3\n",
             bad_line(3, 1, LineCause::Word),
         ),
-        (b"xpsim 1\npartitions 9\n", unbuilt),
+        (b"xpsim 1\npartitions 2\npoke 0 0 16 1\n", unbuilt),
     ] {
         let status = silent_status(alloc, words, text.to_vec(alloc)?);
         assert!(rt; status == Some(wanted), "{text:?}");
@@ -321,15 +342,30 @@ fn dumped_opening(rt: &impl Abort, alloc: Global, behind: &[u8]) -> Result<Vec<u
     Ok(bytes)
 }
 
-/// A dump is listed, and leaves no world.
+/// Lists the dump of the opening, which comes in pieces of at most some length.
+fn expect_listing(
+    rt: &impl Abort,
+    alloc: Global,
+    words: &[Word],
+    largest: usize,
+) -> Result<(), Fail> {
+    assert!(rt; largest >= 1);
+    let bytes = dumped_opening(rt, alloc, b"")?;
+    let mut source = MemorySource::new(bytes, largest, Vec::new(alloc));
+    let mut sink = WholeSink::new(alloc);
+    let done = plain(alloc, words, &mut source, &mut sink);
+    assert!(rt; done.status == Status::Ok && done.end.is_none());
+    assert_eq!(rt; sink.bytes(), OPENING_LISTING);
+    Ok(())
+}
+
+/// A dump is listed, in whichever pieces it comes, and leaves no world.
 #[test]
 fn a_dump_is_listed(rt: HostRuntime) -> Result<(), Fail> {
     let words = words(rt.alloc(), &["decode"])?;
-    let mut source = WholeSource::new(dumped_opening(&rt, rt.alloc(), b"")?);
-    let mut sink = WholeSink::new(rt.alloc());
-    let done = plain(rt.alloc(), &words, &mut source, &mut sink);
-    assert!(rt; done.status == Status::Ok && done.end.is_none());
-    assert_eq!(rt; sink.bytes(), OPENING_LISTING);
+    for largest in [1usize, 7, 4096] {
+        expect_listing(&rt, rt.alloc(), &words, largest)?;
+    }
     Ok(())
 }
 

@@ -1,7 +1,7 @@
 -- What the top call needs to know of each command. A new command adds a case to each lemma.
 use Rattle.std.proofs.Common.{◌≡◌, ℕ, ◌↔◌, inl, inr, Bool, true, false, List, Result, Ok, Err, IsSome, refl, subst, arith}
 use Rattle.xp_script.specs.declared.scenario.Scenario.{Scenario}
-use Rattle.xp_script.specs.Built.{IsBuilt}
+use Rattle.xp_lawful.specs.Built.{IsBuilt}
 use Rattle.xp_scenario.specs.declared.fault.ScenarioFault.{ScenarioFault}
 use Rattle.xp_scenario.specs.declared.fault.ScenarioFault.TheVariants as faults
 use Rattle.xp_scenario.specs.Text.{scenario_in}

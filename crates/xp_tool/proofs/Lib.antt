@@ -1,5 +1,4 @@
 pub mod WordLemmas
 pub mod NumberLemmas
 pub mod Commands
-pub mod Unbuilt
 pub mod Outcomes

@@ -11,7 +11,7 @@ use Rattle.xp_tool.specs.declared.status.Status.{Status}
 use Rattle.xp_tool.specs.declared.status.Status.TheVariants.{Ok, Usage, ReadFault, WriteFault, BadInput, TooLong, NoMemory}
 use Rattle.xp_tool.specs.Command.{limit_of, IsRefused, LeavesWorld, end_of}
 use Rattle.xp_tool.specs.Plain.{ReadsWithin, Reads, Ran, Headline, Cut, WritesFront, IsBad, IsTooLong, told_within, IsWithin, IsToldAnd, IsGood, IsWrong, IsPastLimit}
-use Rattle.xp_tool.specs.Made.{IsMade, IsUnmade, IsUnread, Wrote, Outcome}
+use Rattle.xp_tool.specs.Made.{IsMade, Wrote, Outcome}
 use Rattle.xp_tool.proofs.Commands.{done_good, leaves}
 
 some_none : {A : Type 0} (o : Option A) → IsSome o → o ≡ None → ⊥
@@ -219,26 +219,6 @@ module _ {A B : Type 0} (left : A → Option (List ℕ)) (reads : A → ℕ) (he
   refuses_long_of (BadInput f) t hr p er = absurd (clash o _ _ (λ c p q. past_bad (left s) (left s') f c p q) p t.0)
   refuses_long_of (TooLong n) t hr p er = inl (n, refl)
   refuses_long_of NoMemory t hr p er = inr refl
-
--- no input was read
-pub unread : {A B : Type 0} (left : A → Option (List ℕ)) (reads : A → ℕ) (held : B → Option (List ℕ)) (writes : B → ℕ) (c : ToolCommand) (s s' : A) (k : B) (st : Status) → IsUnread c (left s) (left s') (reads s) (reads s') st → Outcome left reads held writes (Some c) s s' k k None st
-unread left reads held writes c s s' k Ok u = absurd u
-unread left reads held writes c s s' k Usage u = absurd u
-unread left reads held writes c s s' k ReadFault u = (refl, u, refl, refl)
-unread left reads held writes c s s' k WriteFault u = absurd u
-unread left reads held writes c s s' k (BadInput f) u = absurd u
-unread left reads held writes c s s' k (TooLong n) u = (u.0, u.1, refl, refl)
-unread left reads held writes c s s' k NoMemory u = (inl refl, u, refl, refl)
-
--- nothing was made of the input
-pub unmade : {A B : Type 0} (left : A → Option (List ℕ)) (reads : A → ℕ) (held : B → Option (List ℕ)) (writes : B → ℕ) (c : ToolCommand) (s s' : A) (k : B) (input : List ℕ) (st : Status) → Reads c (left s) (left s') input → reads s' ≡ reads s → IsUnmade c input st → Outcome left reads held writes (Some c) s s' k k None st
-unmade left reads held writes c s s' k input Ok r n u = absurd u
-unmade left reads held writes c s s' k input Usage r n u = absurd u
-unmade left reads held writes c s s' k input ReadFault r n u = absurd u
-unmade left reads held writes c s s' k input WriteFault r n u = absurd u
-unmade left reads held writes c s s' k input (BadInput f) r n u = (record { input = input; read = r; refused = u }, n, refl, refl)
-unmade left reads held writes c s s' k input (TooLong limit) r n u = absurd u
-unmade left reads held writes c s s' k input NoMemory r n u = (inl refl, n, refl, refl)
 
 -- the text that was made was written, or a front of it
 pub wrote : {A B : Type 0} (left : A → Option (List ℕ)) (reads : A → ℕ) (held : B → Option (List ℕ)) (writes : B → ℕ) (c : ToolCommand) (s s' : A) (k k' : B) (input : List ℕ) (made : Made) (e : Option World) (st : Status) → Reads c (left s) (left s') input → reads s' ≡ reads s → IsMade c input made → Wrote made.product made.text.items (held k) (held k') (writes k) (writes k') e st → Outcome left reads held writes (Some c) s s' k k' e st

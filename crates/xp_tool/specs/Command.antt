@@ -6,7 +6,7 @@ use Rattle.xp_listing.specs.Listing.{listing_of}
 use Rattle.xp_generator.specs.Generated.{generated}
 use Rattle.xp_print.specs.Text.{text_of as printed}
 use Rattle.xp_script.specs.declared.scenario.Scenario.{Scenario}
-use Rattle.xp_script.specs.Built.{IsBuilt}
+use Rattle.xp_lawful.specs.Built.{IsBuilt}
 use Rattle.xp_report.specs.Report.{report_of}
 use Rattle.xp_report.specs.Summary.{summary_of}
 use Rattle.xp_scenario.specs.declared.fault.ScenarioFault.TheVariants as faults

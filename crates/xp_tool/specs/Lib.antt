@@ -1,5 +1,6 @@
 pub mod Status
 pub mod Words
 pub mod Command
+pub mod Input
 pub mod Plain
 pub mod Made

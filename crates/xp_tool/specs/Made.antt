@@ -1,6 +1,6 @@
 -- What the parts of the top call say to each other: what was read and made before anything is
 -- written, and what the writing of it gives.
-use Rattle.std.specs.Prelude.{◌≡◌, ℕ, ◌⊎◌, List, take, Option, None, IsSome, IsSomeAnd}
+use Rattle.std.specs.Prelude.{◌≡◌, ℕ, ◌⊎◌, List, take, Option, None, IsSome, IsSomeAnd, Result, MatchResult}
 use Rattle.std.specs.Io.KnownBytes.{Appends}
 use Rattle.xp_outside.specs.Causes.{Rose}
 use Rattle.xp_world.specs.declared.world.World.{World}
@@ -9,14 +9,12 @@ use Rattle.xp_tool.specs.declared.product.Product.{Product}
 use Rattle.xp_tool.specs.declared.product.Made.{Made}
 use Rattle.xp_scenario.specs.declared.fault.ScenarioFault.{ScenarioFault}
 use Rattle.xp_scenario.specs.declared.fault.ScenarioFault.TheVariants as faults
-use Rattle.xp_dump.specs.declared.fault.DumpFault.{DumpFault}
-use Rattle.xp_dump.specs.declared.fault.DumpFault.TheVariants as dump_faults
 use Rattle.xp_tool.specs.declared.status.InputFault.{InputFault}
-use Rattle.xp_tool.specs.declared.status.InputFault.TheVariants.{BadLine, TooMany, Page, Trailing}
+use Rattle.xp_tool.specs.declared.status.InputFault.TheVariants.{BadLine, TooMany}
 use Rattle.xp_tool.specs.declared.status.Status.{Status}
 use Rattle.xp_tool.specs.declared.status.Status.TheVariants.{Ok, Usage, ReadFault, WriteFault, BadInput, TooLong, NoMemory}
 use Rattle.xp_tool.specs.Command.{Does, text_of, IsRefused, end_of}
-use Rattle.xp_tool.specs.Plain.{Headline, Cut, WritesFront, IsBad, IsTooLong}
+use Rattle.xp_tool.specs.Plain.{Reads, Headline, Cut, WritesFront, IsBad, IsTooLong}
 
 -- what was made of the input, with its text
 pub record IsMade (command : ToolCommand) (input : List ℕ) (made : Made) : Type 0 where
@@ -28,12 +26,6 @@ abbrev pub refusal_of : ScenarioFault → Status
 refusal_of (faults.BadLine line column cause) = BadInput (BadLine line column cause)
 refusal_of (faults.TooMany what limit) = BadInput (TooMany what limit)
 refusal_of faults.Memory = NoMemory
-
--- the status of bytes that are no dump
-abbrev pub dump_refusal_of : DumpFault → Status
-dump_refusal_of (dump_faults.Page fault) = BadInput (Page fault)
-dump_refusal_of (dump_faults.Trailing offset) = BadInput (Trailing offset)
-dump_refusal_of dump_faults.Memory = NoMemory
 
 -- why nothing was made of an input that these faults refuse
 abbrev pub IsUnmadeBy : (InputFault → Type 0) → Status → Type 0
@@ -49,16 +41,31 @@ IsUnmadeBy Refuses NoMemory = Unit {0}
 abbrev pub IsUnmade : ToolCommand → List ℕ → Status → Type 0
 IsUnmade command input status = IsUnmadeBy (IsRefused command input) status
 
--- why no input was read; the numbers count the source's faults
-abbrev pub IsUnread : ToolCommand → Option (List ℕ) → Option (List ℕ) → ℕ → ℕ → Status → Type 0
-IsUnread command left left' faults faults' Ok = ⊥
-IsUnread command left left' faults faults' Usage = ⊥
-IsUnread command left left' faults faults' ReadFault = Rose faults faults'
-IsUnread command left left' faults faults' WriteFault = ⊥
-IsUnread command left left' faults faults' (BadInput fault) = ⊥
-IsUnread command left left' faults faults' (TooLong limit) =
+-- what the command made of a source: what it read, and what it made of that
+pub record HasMade (command : ToolCommand) (left left' : Option (List ℕ)) (made : Made)
+    : Type 0 where
+  pub input : List ℕ
+  pub read : Reads command left left' input
+  pub is : IsMade command input made
+
+-- why the command made nothing of a source; the numbers count its faults
+abbrev pub MakesNothing : ToolCommand → Option (List ℕ) → Option (List ℕ) → ℕ → ℕ → Status → Type 0
+MakesNothing command left left' faults faults' Ok = ⊥
+MakesNothing command left left' faults faults' Usage = ⊥
+MakesNothing command left left' faults faults' ReadFault = Rose faults faults'
+MakesNothing command left left' faults faults' WriteFault = ⊥
+MakesNothing command left left' faults faults' (BadInput fault) =
+    IsBad command left left' fault × (faults' ≡ faults)
+MakesNothing command left left' faults faults' (TooLong limit) =
     IsTooLong command left left' limit × (faults' ≡ faults)
-IsUnread command left left' faults faults' NoMemory = faults' ≡ faults
+MakesNothing command left left' faults faults' NoMemory = faults' ≡ faults
+
+-- what the command made of a source, or why it made nothing
+abbrev pub Makes : ToolCommand → Option (List ℕ) → Option (List ℕ) → ℕ → ℕ → Result Made Status
+    → Type 0
+Makes command left left' faults faults' result = MatchResult result
+    (λ made. HasMade command left left' made × (faults' ≡ faults))
+    (λ status. MakesNothing command left left' faults faults' status)
 
 -- how the writing of a text ended; the numbers count the sink's faults
 abbrev pub Wrote : Product → List ℕ → Option (List ℕ) → Option (List ℕ) → ℕ → ℕ → Option World

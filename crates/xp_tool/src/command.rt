@@ -1,6 +1,6 @@
 // The program's commands.
 ghost use Rattle.std.specs.Prelude.{◌≡◌};
-ghost use Rattle.xp_tool.specs.Command.{is_plain, limit_of};
+ghost use Rattle.xp_tool.specs.Command.{is_plain};
 
 /// What the program is asked to do.
 #[derive(Clone, Copy)]
@@ -33,17 +33,6 @@ impl ToolCommand {
             | ToolCommand::Decode
             | ToolCommand::Gen { .. }
             | ToolCommand::Big { .. } => true,
-        }
-    }
-
-    /// How many bytes of input it reads at most. A command without a limit reads nothing.
-    pub fn limit(&self) -> Option<usize>
-        ensures { result ≡ limit_of self.now }
-    {
-        match self {
-            ToolCommand::Replay | ToolCommand::Dump => Some(SCENARIO_LIMIT),
-            ToolCommand::Decode => Some(DUMP_LIMIT),
-            ToolCommand::Gen { .. } | ToolCommand::Big { .. } => None,
         }
     }
 }

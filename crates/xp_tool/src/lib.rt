@@ -2,6 +2,7 @@
 #![tactic(auto)]
 
 pub mod command;
+mod input;
 pub mod plain;
 mod product;
 pub mod status;

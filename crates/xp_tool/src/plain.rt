@@ -2,8 +2,8 @@
 ghost use Rattle.std.specs.Prelude.{◌≡◌, ◌≢◌, ℕ, ◌<◌, ◌≤◌, ◌-◌, ◌^◌, ◌↔◌, ◌⊎◌, List, length, None, IfOk, IfErr, IsSome, IsSomeAnd};
 ghost use Rattle.xp_outside.specs.Causes.{Rose};
 ghost use Rattle.xp_tool.specs.Command.{LeavesWorld};
-ghost use Rattle.xp_tool.specs.Plain.{plain_command_of, Reads, Headline, Cut, WritesFront, IsBad, IsTooLong, IsGood, IsWrong, IsPastLimit};
-ghost use Rattle.xp_tool.specs.Made.{IsUnread, Wrote, Outcome};
+ghost use Rattle.xp_tool.specs.Plain.{plain_command_of, Headline, Cut, WritesFront, IsBad, IsTooLong, IsGood, IsWrong, IsPastLimit};
+ghost use Rattle.xp_tool.specs.Made.{Wrote, Outcome};
 
 use crate::command::ToolCommand;
 use crate::product::{Made, make};
@@ -11,7 +11,7 @@ use crate::status::{InputFault, Status};
 use crate::words::{Word, command};
 use std::alloc::{AllocError, Global};
 use xp_outside::sink::{Sink, SinkFault, write_all};
-use xp_outside::source::{ReadError, Source, read_all};
+use xp_outside::source::Source;
 use xp_world::world::World;
 
 /// How a call ended, and the world that it left. There is one exactly where the command leaves a
@@ -112,11 +112,7 @@ fn perform<S: Source, K: Sink>(alloc: Global, words: &[Word], source: &mut S, si
         Ok(None) => return failed(Status::Usage),
         Err(_) => return failed(Status::NoMemory),
     };
-    let input = match read_input(alloc, command, source) {
-        Ok(input) => input,
-        Err(status) => return failed(status),
-    };
-    match make(alloc, command, &input) {
+    match make(alloc, command, source) {
         Ok(made) => write_out(sink, made),
         Err(status) => failed(status),
     }
@@ -129,33 +125,6 @@ fn plain_command(alloc: Global, words: &[Word]) -> Result<Option<ToolCommand>, A
     match command(alloc, words)? {
         Some(command) if command.is_plain() => Ok(Some(command)),
         _ => Ok(None),
-    }
-}
-
-// Reads the input of a command, or says why there is none.
-fn read_input<S: Source>(
-    alloc: Global,
-    command: ToolCommand,
-    source: &mut S,
-) -> Result<Vec<u8>, Status>
-    requires { S.faults source.old < 2 ^ 64 - 1 }
-    ensures read { IfOk result (λ input.
-        Reads command (S.left source.old) (S.left source.new) input.items) }
-    ensures kept { IfOk result (λ input. S.faults source.new ≡ S.faults source.old) }
-    ensures unread { IfErr result (λ status.
-        IsUnread command (S.left source.old) (S.left source.new)
-        (S.faults source.old) (S.faults source.new) status) }
-{
-    let Some(limit) = command.limit() else {
-        return Ok(Vec::new(alloc));
-    };
-    match read_all(alloc, source, limit) {
-        Ok(input) => Ok(input),
-        Err(ReadError::Failed) => Err(Status::ReadFault),
-        Err(ReadError::TooLong) => Err(Status::TooLong {
-            limit: limit as u64,
-        }),
-        Err(ReadError::Memory) => Err(Status::NoMemory),
     }
 }
 

@@ -1,19 +1,20 @@
-// What a command makes of its input, before anything is written.
-ghost use Rattle.std.specs.Prelude.{◌≡◌, ℕ, List, IfOk, IfErr, Ok};
-ghost use Rattle.xp_dump.specs.Grammar.{IsDump};
+// What a command makes of what it reads, before anything is written.
+ghost use Rattle.std.specs.Prelude.{◌≡◌, ℕ, ◌<◌, ◌-◌, ◌^◌, [], IfOk, IfErr, Ok};
 ghost use Rattle.xp_generator.specs.Generated.{generated};
 ghost use Rattle.xp_script.specs.Lawful.{IsLawful};
 ghost use Rattle.xp_scenario.specs.Text.{scenario_in};
-ghost use Rattle.xp_tool.specs.Command.{end_of, IsNoDump, IsNoScenario, IsNotBuilt, Leads, Replays};
-ghost use Rattle.xp_tool.specs.Made.{IsMade, IsUnmade, IsUnmadeBy, dump_refusal_of, refusal_of};
+ghost use Rattle.xp_tool.specs.Command.{end_of, IsNoScenario, IsNotBuilt, Leads, Replays};
+ghost use Rattle.xp_tool.specs.Made.{IsMade, IsUnmade, IsUnmadeBy, Makes, refusal_of};
 
 use crate::command::ToolCommand;
+use crate::input::{read_dump, read_text};
 use crate::status::{InputFault, Status};
 use std::alloc::Global;
 use xp_base::words::Words;
-use xp_dump::{DumpFault, Reader, dump, listing};
+use xp_dump::{dump, listing};
 use xp_generator::generator::generate;
 use xp_lawful::built::is_built;
+use xp_outside::source::Source;
 use xp_print::text::print;
 use xp_report::summary::summary;
 use xp_report::text::report;
@@ -52,15 +53,22 @@ pub struct Made {
     pub text: Vec<u8>,
 }
 
-/// What a command makes of its input, or why it makes nothing.
-pub fn make(alloc: Global, command: ToolCommand, input: &[u8]) -> Result<Made, Status>
-    ensures made { IfOk result (λ made. IsMade command input.now made) }
-    ensures unmade { IfErr result (λ status. IsUnmade command input.now status) }
+/// What a command makes of what it reads from a source, or why it makes nothing.
+pub fn make<S: Source>(alloc: Global, command: ToolCommand, source: &mut S) -> Result<Made, Status>
+    requires { S.faults source.old < 2 ^ 64 - 1 }
+    ensures { Makes command (S.left source.old) (S.left source.new)
+        (S.faults source.old) (S.faults source.new) result }
 {
     match command {
-        ToolCommand::Replay => report_replay(alloc, input),
-        ToolCommand::Dump => dump_replay(alloc, input),
-        ToolCommand::Decode => decode(alloc, input),
+        ToolCommand::Replay => {
+            let text = read_text(alloc, source)?;
+            report_replay(alloc, &text)
+        }
+        ToolCommand::Dump => {
+            let text = read_text(alloc, source)?;
+            dump_replay(alloc, &text)
+        }
+        ToolCommand::Decode => decode(alloc, source),
         ToolCommand::Gen { n } => print_generated(alloc, n),
         ToolCommand::Big { n } => summarize_generated(alloc, n),
     }
@@ -153,41 +161,13 @@ fn dump_replay(alloc: Global, input: &[u8]) -> Result<Made, Status>
     }
 }
 
-// The words that an input tells as a dump.
-fn told_words(alloc: Global, input: &[u8]) -> Result<Words, Status>
-    ensures told { IfOk result (λ words. IsDump input.now words) }
-    ensures unmade { IfErr result (λ status. IsUnmadeBy (IsNoDump input.now) status) }
-{
-    let mut reader = match Reader::new(alloc) {
-        Ok(reader) => reader,
-        Err(_) => return Err(Status::NoMemory),
-    };
-    if let Err(fault) = reader.feed(input) {
-        return Err(dump_refusal(fault));
-    }
-    match reader.finish() {
-        Ok(words) => Ok(words),
-        Err(fault) => Err(dump_refusal(fault)),
-    }
-}
-
-// The status of bytes that are no dump.
-fn dump_refusal(fault: DumpFault) -> Status
-    ensures { result ≡ dump_refusal_of fault }
-{
-    match fault {
-        DumpFault::Page(fault) => Status::BadInput(InputFault::Page(fault)),
-        DumpFault::Trailing { offset } => Status::BadInput(InputFault::Trailing { offset }),
-        DumpFault::Memory => Status::NoMemory,
-    }
-}
-
 // Reads a dump, and makes the listing of its words.
-fn decode(alloc: Global, input: &[u8]) -> Result<Made, Status>
-    ensures made { IfOk result (λ made. IsMade ToolCommand.Decode input.now made) }
-    ensures unmade { IfErr result (λ status. IsUnmade ToolCommand.Decode input.now status) }
+fn decode<S: Source>(alloc: Global, source: &mut S) -> Result<Made, Status>
+    requires { S.faults source.old < 2 ^ 64 - 1 }
+    ensures { Makes ToolCommand.Decode (S.left source.old) (S.left source.new)
+        (S.faults source.old) (S.faults source.new) result }
 {
-    let words = told_words(alloc, input)?;
+    let words = read_dump(alloc, source)?;
     match listing(alloc, &words) {
         Ok(lines) => Ok(Made {
             product: Product::Told(words),
@@ -211,8 +191,8 @@ fn numbered_scenario(alloc: Global, n: u32) -> Result<Scenario, Status>
 
 // Makes the scenario of a number, and its text.
 fn print_generated(alloc: Global, n: u32) -> Result<Made, Status>
-    ensures made { IfOk result (λ made. (input : List ℕ) → IsMade (ToolCommand.Gen n) input made) }
-    ensures unmade { IfErr result (λ status. status ≡ Status.NoMemory) }
+    ensures made { IfOk result (λ made. IsMade (ToolCommand.Gen n) [] made) }
+    ensures unmade { IfErr result (λ status. IsUnmade (ToolCommand.Gen n) [] status) }
 {
     let scenario = numbered_scenario(alloc, n)?;
     match print(alloc, &scenario) {
@@ -226,8 +206,8 @@ fn print_generated(alloc: Global, n: u32) -> Result<Made, Status>
 
 // Replays the scenario of a number, and makes the summary of the world that it leads to.
 fn summarize_generated(alloc: Global, n: u32) -> Result<Made, Status>
-    ensures made { IfOk result (λ made. (input : List ℕ) → IsMade (ToolCommand.Big n) input made) }
-    ensures unmade { IfErr result (λ status. IsUnmadeBy (IsNotBuilt (generated n)) status) }
+    ensures made { IfOk result (λ made. IsMade (ToolCommand.Big n) [] made) }
+    ensures unmade { IfErr result (λ status. IsUnmade (ToolCommand.Big n) [] status) }
 {
     let scenario = numbered_scenario(alloc, n)?;
     let world = lead(alloc, &scenario)?;

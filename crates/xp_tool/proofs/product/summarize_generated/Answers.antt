@@ -3,16 +3,10 @@ use Rattle.xp_script.specs.declared.scenario.Scenario.{Scenario}
 use Rattle.xp_generator.specs.Generated.{generated}
 use Rattle.xp_report.specs.Summary.{summary_of}
 use Rattle.xp_tool.specs.Command.{Leads}
-use Rattle.xp_tool.proofs.Unbuilt.{not_built}
 use Rattle.xp_tool.proofs.product.summarize_generated.Goals as goal
 
-pub summary-requires-clause-counts : goal.summary-requires-clause-counts
-summary-requires-clause-counts c =
-    let leads : Leads (generated c.args.n) c.in_ok-world.world = subst (λ (s : Scenario). Leads s c.in_ok-world.world) c.in_ok-scenario.ensures.generated c.in_ok-world.ensures.leads in
-    absurd (not_built c.args.n leads.built)
-
 pub returns-in-Ok-clause-made : goal.returns-in-Ok-clause-made
-returns-in-Ok-clause-made c = λ input. record {
+returns-in-Ok-clause-made c = record {
   done = subst (λ (s : Scenario). Leads s c.in_ok-world.world) c.in_ok-scenario.ensures.generated c.in_ok-world.ensures.leads;
   text = c.in-Ok.ensures ∙ ap (summary_of c.args.n) c.deref.ensures.value;
 }

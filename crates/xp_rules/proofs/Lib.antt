@@ -1,9 +1,0 @@
-pub mod Undo
-pub mod Makes
-pub mod Slots
-pub mod Ends
-pub mod Opened
-pub mod Stays
-pub mod Lawful
-pub mod Targets
-pub mod Setups

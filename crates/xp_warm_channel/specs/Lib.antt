@@ -1,9 +1,0 @@
-pub mod First
-pub mod End
-pub mod Connections
-pub mod ConnectionsInside
-pub mod Channel
-pub mod Commanding
-pub mod Stepping
-pub mod Permitted
-pub mod ChannelInside

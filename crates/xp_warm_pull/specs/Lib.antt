@@ -1,4 +1,0 @@
-pub mod Side
-pub mod Cached
-pub mod Keeping
-pub mod SideInside

@@ -1,2 +1,0 @@
-pub mod Side
-pub mod SideInside
