@@ -1,5 +1,6 @@
-//! The yardstick of bench/replay.sh: a plain program that replays the same scenarios by the same steps and writes the
-//! same report. It proves nothing, keeps no history of its steps, and trusts its input to be in the language.
+//! The yardstick of bench/replay.sh: a plain program that replays the same scenarios, by steps for messages alone and a
+//! plan of its own, and writes the same report. Its two partitions are connected from the start and never look at each
+//! other. It proves nothing, keeps no history of its steps, and trusts its input to be in the language.
 use std::fmt::Write as _;
 use std::io::{Read, Write as _, stdin, stdout};
 
