@@ -25,7 +25,7 @@ use Rattle.clap.specs.declared.error.kind.ErrorKind.TheVariants as kind
 use Rattle.clap.proofs.OnLiterals.{clap_on_literals}
 use Rattle.clap.proofs.WalkLemmas.{first_value-rows}
 use Rattle.xp_text.specs.Numbers.{digits_of}
-use Rattle.xp_tool.specs.declared.command.ToolCommand.TheVariants.{Replay, Dump, Decode, Gen, Big}
+use Rattle.xp_tool.specs.declared.command.ToolCommand.TheVariants.{Replay, Run, Dump, Decode, Gen, Big}
 use Rattle.xp_tool.specs.declared.words.TheConstants.{NUMBER_DIGITS}
 use Rattle.xp_tool.specs.Words.{named_of, numbered_of, number_of, number_id, numbered_app, command_met, spelled_by, command_in, grammar_app, is_flag}
 
@@ -46,6 +46,9 @@ names = names_of whole
 
 abbrev replay : Text
 replay = codes "replay"
+
+abbrev run : Text
+run = codes "run"
 
 abbrev dump : Text
 dump = codes "dump"
@@ -69,6 +72,7 @@ numbered_leaf name = built_leaf (inherited whole.top (numbered_app name).top)
 -- the word names no command
 record IsUnknown (w : Text) : Type 0 where
   no_replay : bytes_eq replay w ≡ false
+  no_run : bytes_eq run w ≡ false
   no_dump : bytes_eq dump w ≡ false
   no_decode : bytes_eq decode w ≡ false
   no_gen : bytes_eq gen w ≡ false
@@ -77,6 +81,7 @@ record IsUnknown (w : Text) : Type 0 where
 -- which command a word names
 data Which (w : Text) : Type 0 where
   is_replay : replay ≡ w → Which w
+  is_run : run ≡ w → Which w
   is_dump : dump ≡ w → Which w
   is_decode : decode ≡ w → Which w
   is_gen : gen ≡ w → Which w
@@ -87,14 +92,15 @@ same_text : (name w : Text) → bytes_eq name w ≡ true → name ≡ w
 same_text name w e = (bytes_decides name w).0 e
 
 which : (w : Text) → Which w
-which w = by (bytes_eq replay w) (bytes_eq dump w) (bytes_eq decode w) (bytes_eq gen w) (bytes_eq big w) refl refl refl refl refl where
-  by : (a b c d e : Bool) → bytes_eq replay w ≡ a → bytes_eq dump w ≡ b → bytes_eq decode w ≡ c → bytes_eq gen w ≡ d → bytes_eq big w ≡ e → Which w
-  by true b c d e p q r s t = is_replay (same_text replay w p)
-  by false true c d e p q r s t = is_dump (same_text dump w q)
-  by false false true d e p q r s t = is_decode (same_text decode w r)
-  by false false false true e p q r s t = is_gen (same_text gen w s)
-  by false false false false true p q r s t = is_big (same_text big w t)
-  by false false false false false p q r s t = unknown (record { no_replay = p; no_dump = q; no_decode = r; no_gen = s; no_big = t })
+which w = by (bytes_eq replay w) (bytes_eq run w) (bytes_eq dump w) (bytes_eq decode w) (bytes_eq gen w) (bytes_eq big w) refl refl refl refl refl refl where
+  by : (a z b c d e : Bool) → bytes_eq replay w ≡ a → bytes_eq run w ≡ z → bytes_eq dump w ≡ b → bytes_eq decode w ≡ c → bytes_eq gen w ≡ d → bytes_eq big w ≡ e → Which w
+  by true z b c d e p o q r s t = is_replay (same_text replay w p)
+  by false true b c d e p o q r s t = is_run (same_text run w o)
+  by false false true c d e p o q r s t = is_dump (same_text dump w q)
+  by false false false true d e p o q r s t = is_decode (same_text decode w r)
+  by false false false false true e p o q r s t = is_gen (same_text gen w s)
+  by false false false false false true p o q r s t = is_big (same_text big w t)
+  by false false false false false false p o q r s t = unknown (record { no_replay = p; no_run = o; no_dump = q; no_decode = r; no_gen = s; no_big = t })
 
 front : (a b : Kinds) → or_else a b ≡ [] → a ≡ []
 front [] b e = refl
@@ -171,20 +177,22 @@ stray s i h w n f e =
 
 unmet : (w : Text) → IsUnknown w → subcommand_met names idle w ≡ None
 unmet w u =
-    let found : Bool → Bool → Bool → Bool → Bool → Option Text = λ a b c d e. option_map (λ (s : Text × List Text). s.0) (cond (a || false) (Some (replay, [])) (cond (b || false) (Some (dump, [])) (cond (c || false) (Some (decode, [])) (cond (d || false) (Some (gen, [])) (cond (e || false) (Some (big, [])) None))))) in
-    let A : Bool → Type 0 = λ a. found a (bytes_eq dump w) (bytes_eq decode w) (bytes_eq gen w) (bytes_eq big w) ≡ None in
-    let B : Bool → Type 0 = λ b. found false b (bytes_eq decode w) (bytes_eq gen w) (bytes_eq big w) ≡ None in
-    let C : Bool → Type 0 = λ c. found false false c (bytes_eq gen w) (bytes_eq big w) ≡ None in
-    let D : Bool → Type 0 = λ d. found false false false d (bytes_eq big w) ≡ None in
-    let E : Bool → Type 0 = λ e. found false false false false e ≡ None in
-    subst A (sym u.no_replay) (subst B (sym u.no_dump) (subst C (sym u.no_decode) (subst D (sym u.no_gen) (subst E (sym u.no_big) refl))))
+    let found : Bool → Bool → Bool → Bool → Bool → Bool → Option Text = λ a z b c d e. option_map (λ (s : Text × List Text). s.0) (cond (a || false) (Some (replay, [])) (cond (z || false) (Some (run, [])) (cond (b || false) (Some (dump, [])) (cond (c || false) (Some (decode, [])) (cond (d || false) (Some (gen, [])) (cond (e || false) (Some (big, [])) None)))))) in
+    let A : Bool → Type 0 = λ a. found a (bytes_eq run w) (bytes_eq dump w) (bytes_eq decode w) (bytes_eq gen w) (bytes_eq big w) ≡ None in
+    let Z : Bool → Type 0 = λ z. found false z (bytes_eq dump w) (bytes_eq decode w) (bytes_eq gen w) (bytes_eq big w) ≡ None in
+    let B : Bool → Type 0 = λ b. found false false b (bytes_eq decode w) (bytes_eq gen w) (bytes_eq big w) ≡ None in
+    let C : Bool → Type 0 = λ c. found false false false c (bytes_eq gen w) (bytes_eq big w) ≡ None in
+    let D : Bool → Type 0 = λ d. found false false false false d (bytes_eq big w) ≡ None in
+    let E : Bool → Type 0 = λ e. found false false false false false e ≡ None in
+    subst A (sym u.no_replay) (subst Z (sym u.no_run) (subst B (sym u.no_dump) (subst C (sym u.no_decode) (subst D (sym u.no_gen) (subst E (sym u.no_big) refl)))))
 
 unnamed : (w : Text) → IsUnknown w → named_of w ≡ None
 unnamed w u =
-    let P : Bool → Type 0 = λ a. (if a then Some Replay else (if bytes_eq dump w then Some Dump else (if bytes_eq decode w then Some Decode else None))) ≡ None in
+    let P : Bool → Type 0 = λ a. (if a then Some Replay else (if bytes_eq run w then Some Run else (if bytes_eq dump w then Some Dump else (if bytes_eq decode w then Some Decode else None)))) ≡ None in
+    let O : Bool → Type 0 = λ z. (if z then Some Run else (if bytes_eq dump w then Some Dump else (if bytes_eq decode w then Some Decode else None))) ≡ None in
     let Q : Bool → Type 0 = λ b. (if b then Some Dump else (if bytes_eq decode w then Some Decode else None)) ≡ None in
     let R : Bool → Type 0 = λ c. (if c then Some Decode else None) ≡ None in
-    subst P (sym u.no_replay) (subst Q (sym u.no_dump) (subst R (sym u.no_decode) refl))
+    subst P (sym u.no_replay) (subst O (sym u.no_run) (subst Q (sym u.no_dump) (subst R (sym u.no_decode) refl)))
 
 -- no number makes a command of such a name
 abbrev IsUnnumbered : Text → Type 0
@@ -268,6 +276,10 @@ over_leaf name x more f first =
 wrong_replay : (x : Text) (more : List Text) → is_flag x ≡ false → fault_of grammar_app (replay ∷ x ∷ more) ≡ [] → ⊥
 unfolding clap_on_literals
 wrong_replay x more f = of_entered replay (x ∷ more) refl (λ e. over_leaf replay x more f (front (walk_fault (leaf replay) [] (walk_from nothing_held) (x ∷ more)) _ e))
+
+wrong_run : (x : Text) (more : List Text) → is_flag x ≡ false → fault_of grammar_app (run ∷ x ∷ more) ≡ [] → ⊥
+unfolding clap_on_literals
+wrong_run x more f = of_entered run (x ∷ more) refl (λ e. over_leaf run x more f (front (walk_fault (leaf run) [] (walk_from nothing_held) (x ∷ more)) _ e))
 
 wrong_dump : (x : Text) (more : List Text) → is_flag x ≡ false → fault_of grammar_app (dump ∷ x ∷ more) ≡ [] → ⊥
 unfolding clap_on_literals
@@ -366,6 +378,10 @@ one_replay : fault_of grammar_app (replay ∷ []) ≡ []
 unfolding clap_on_literals
 one_replay = refl
 
+one_run : fault_of grammar_app (run ∷ []) ≡ []
+unfolding clap_on_literals
+one_run = refl
+
 one_dump : fault_of grammar_app (dump ∷ []) ≡ []
 unfolding clap_on_literals
 one_dump = refl
@@ -385,6 +401,10 @@ one_big e = cc
 met_replay : subcommand_of grammar_app (replay ∷ []) ≡ Some (replay, [])
 unfolding clap_on_literals
 met_replay = refl
+
+met_run : subcommand_of grammar_app (run ∷ []) ≡ Some (run, [])
+unfolding clap_on_literals
+met_run = refl
 
 met_dump : subcommand_of grammar_app (dump ∷ []) ≡ Some (dump, [])
 unfolding clap_on_literals
@@ -418,6 +438,7 @@ told_wrong words wrong none = ((λ h. absurd (wrong h)), λ k h. none)
 
 told_one : (w : Text) → Which w → is_flag w ≡ false → Told (w ∷ [])
 told_one w (is_replay e) f = subst (λ (v : Text). Told (v ∷ [])) e (told_right (replay ∷ []) (replay, []) one_replay met_replay refl)
+told_one w (is_run e) f = subst (λ (v : Text). Told (v ∷ [])) e (told_right (run ∷ []) (run, []) one_run met_run refl)
 told_one w (is_dump e) f = subst (λ (v : Text). Told (v ∷ [])) e (told_right (dump ∷ []) (dump, []) one_dump met_dump refl)
 told_one w (is_decode e) f = subst (λ (v : Text). Told (v ∷ [])) e (told_right (decode ∷ []) (decode, []) one_decode met_decode refl)
 told_one w (is_gen e) f = subst (λ (v : Text). Told (v ∷ [])) e (told_wrong (gen ∷ []) one_gen refl)
@@ -426,6 +447,7 @@ told_one w (unknown u) f = told_wrong (w ∷ []) (of_unknown w [] f u) (unnamed 
 
 told_two : (w x : Text) → Which w → is_flag w ≡ false → is_flag x ≡ false → Told (w ∷ x ∷ [])
 told_two w x (is_replay e) f g = subst (λ (v : Text). Told (v ∷ x ∷ [])) e (told_wrong (replay ∷ x ∷ []) (wrong_replay x [] g) (no_command replay x (λ n. refl)))
+told_two w x (is_run e) f g = subst (λ (v : Text). Told (v ∷ x ∷ [])) e (told_wrong (run ∷ x ∷ []) (wrong_run x [] g) (no_command run x (λ n. refl)))
 told_two w x (is_dump e) f g = subst (λ (v : Text). Told (v ∷ x ∷ [])) e (told_wrong (dump ∷ x ∷ []) (wrong_dump x [] g) (no_command dump x (λ n. refl)))
 told_two w x (is_decode e) f g = subst (λ (v : Text). Told (v ∷ x ∷ [])) e (told_wrong (decode ∷ x ∷ []) (wrong_decode x [] g) (no_command decode x (λ n. refl)))
 told_two w x (is_gen e) f g = subst (λ (v : Text). Told (v ∷ x ∷ [])) e (told_right (gen ∷ x ∷ []) (gen, number_rows x) (right_gen x g) (met_gen x g) refl)
@@ -434,6 +456,7 @@ told_two w x (unknown u) f g = told_wrong (w ∷ x ∷ []) (of_unknown w (x ∷ 
 
 told_more : (w x y : Text) (rest : List Text) → Which w → is_flag w ≡ false → is_flag x ≡ false → is_flag y ≡ false → Told (w ∷ x ∷ y ∷ rest)
 told_more w x y rest (is_replay e) f g h = subst (λ (v : Text). Told (v ∷ x ∷ y ∷ rest)) e (told_wrong (replay ∷ x ∷ y ∷ rest) (wrong_replay x (y ∷ rest) g) refl)
+told_more w x y rest (is_run e) f g h = subst (λ (v : Text). Told (v ∷ x ∷ y ∷ rest)) e (told_wrong (run ∷ x ∷ y ∷ rest) (wrong_run x (y ∷ rest) g) refl)
 told_more w x y rest (is_dump e) f g h = subst (λ (v : Text). Told (v ∷ x ∷ y ∷ rest)) e (told_wrong (dump ∷ x ∷ y ∷ rest) (wrong_dump x (y ∷ rest) g) refl)
 told_more w x y rest (is_decode e) f g h = subst (λ (v : Text). Told (v ∷ x ∷ y ∷ rest)) e (told_wrong (decode ∷ x ∷ y ∷ rest) (wrong_decode x (y ∷ rest) g) refl)
 told_more w x y rest (is_gen e) f g h = subst (λ (v : Text). Told (v ∷ x ∷ y ∷ rest)) e (told_wrong (gen ∷ x ∷ y ∷ rest) (wrong_gen x y rest g h) refl)

@@ -1,5 +1,5 @@
 -- What each command of the program means. A new command adds a case to each definition of this page, and changes no clause of the top call.
-use Rattle.std.specs.Prelude.{◌≡◌, ℕ, ◌⊎◌, List, [], Bool, true, Option, Some, None, Ok, Err}
+use Rattle.std.specs.Prelude.{◌≡◌, ℕ, ◌⊎◌, List, [], Bool, true, false, not, Option, Some, None, Ok, Err}
 use Rattle.xp_dump.specs.Grammar.{dump_bytes, IsDump, IsPast, IsCut}
 use Rattle.xp_dump.specs.Grammar.{IsRefused as HasBadWord}
 use Rattle.xp_listing.specs.Listing.{listing_of}
@@ -9,13 +9,17 @@ use Rattle.xp_script.specs.declared.scenario.Scenario.{Scenario}
 use Rattle.xp_lawful.specs.Built.{IsBuilt}
 use Rattle.xp_report.specs.Report.{report_of}
 use Rattle.xp_report.specs.Summary.{summary_of}
+use Rattle.xp_forms.specs.declared.fault.LineCause.{LineCause}
+use Rattle.xp_forms.specs.declared.fault.LineCause.TheVariants.{PokeInRun}
 use Rattle.xp_scenario.specs.declared.fault.ScenarioFault.TheVariants as faults
+use Rattle.xp_scenario.specs.Pokes.{poke_in}
 use Rattle.xp_scenario.specs.Text.{scenario_in}
+use Rattle.xp_threads.specs.Running.{RanThreads}
 use Rattle.xp_world.specs.declared.world.World.{World}
 use Rattle.xp_world.specs.World.{Replayed, IsReady}
 use Rattle.xp_tool.specs.declared.command.TheConstants.{SCENARIO_LIMIT, DUMP_LIMIT}
 use Rattle.xp_tool.specs.declared.command.ToolCommand.{ToolCommand}
-use Rattle.xp_tool.specs.declared.command.ToolCommand.TheVariants.{Replay, Dump, Decode, Gen, Big}
+use Rattle.xp_tool.specs.declared.command.ToolCommand.TheVariants.{Replay, Run, Dump, Decode, Gen, Big}
 use Rattle.xp_tool.specs.declared.product.Product.{Product}
 use Rattle.xp_tool.specs.declared.product.Product.TheVariants as product
 use Rattle.xp_tool.specs.declared.status.InputFault.{InputFault}
@@ -24,14 +28,21 @@ use Rattle.xp_tool.specs.declared.status.InputFault.TheVariants.{BadLine, TooMan
 -- the command needs no threads
 abbrev pub is_plain : ToolCommand → Bool
 is_plain Replay = true
+is_plain Run = false
 is_plain Dump = true
 is_plain Decode = true
 is_plain (Gen n) = true
 is_plain (Big n) = true
 
+-- there is a command, and it needs threads
+abbrev pub needs_threads : Option ToolCommand → Bool
+needs_threads None = false
+needs_threads (Some command) = not (is_plain command)
+
 -- how many bytes the command reads at most; none where it reads nothing
 abbrev pub limit_of : ToolCommand → Option ℕ
 limit_of Replay = Some SCENARIO_LIMIT
+limit_of Run = Some SCENARIO_LIMIT
 limit_of Dump = Some SCENARIO_LIMIT
 limit_of Decode = Some DUMP_LIMIT
 limit_of (Gen n) = None
@@ -72,6 +83,33 @@ IsNoScenario input Unbuilt = IsUnbuilt input
 IsNoScenario input (Page fault) = ⊥
 IsNoScenario input (Trailing offset) = ⊥
 
+-- the input spells a scenario that pokes no word and can be run, and the world is what its
+-- partitions leave as threads
+pub record Runs (input : List ℕ) (world : World) : Type 0 where
+  pub scenario : Scenario
+  pub spelled : scenario_in input ≡ Ok scenario
+  pub unpoked : poke_in input ≡ None
+  pub built : IsBuilt scenario
+  pub ran : RanThreads scenario world
+  pub ready : IsReady world
+
+-- the input spells a scenario, and the first of its lines that poke a word stands here
+pub record IsPokedAt (input : List ℕ) (line column : ℕ) (cause : LineCause) : Type 0 where
+  pub scenario : Scenario
+  pub spelled : scenario_in input ≡ Ok scenario
+  pub place : poke_in input ≡ Some (line, column)
+  pub is : cause ≡ PokeInRun
+
+-- the input spells no scenario that can be run in threads, and this fault says where and why. A line
+-- that pokes a word yields to every other fault of the text
+abbrev pub IsNoRun : List ℕ → InputFault → Type 0
+IsNoRun input (BadLine line column cause) =
+    (scenario_in input ≡ Err (faults.BadLine line column cause)) ⊎ IsPokedAt input line column cause
+IsNoRun input (TooMany what limit) = scenario_in input ≡ Err (faults.TooMany what limit)
+IsNoRun input Unbuilt = (poke_in input ≡ None) × IsUnbuilt input
+IsNoRun input (Page fault) = ⊥
+IsNoRun input (Trailing offset) = ⊥
+
 -- the input is no dump, and this fault says where and why: its first word that isn't allowed, or
 -- its end where bytes are missing, or the first byte behind a whole dump
 abbrev pub IsNoDump : List ℕ → InputFault → Type 0
@@ -84,6 +122,7 @@ IsNoDump input (Trailing offset) = IsPast input offset
 -- the input isn't in the command's grammar, or can't be run, and this fault says where and why
 abbrev pub IsRefused : ToolCommand → List ℕ → InputFault → Type 0
 IsRefused Replay input fault = IsNoScenario input fault
+IsRefused Run input fault = IsNoRun input fault
 IsRefused Dump input fault = IsNoScenario input fault
 IsRefused Decode input fault = IsNoDump input fault
 IsRefused (Gen n) input fault = ⊥
@@ -92,30 +131,42 @@ IsRefused (Big n) input fault = IsNotBuilt (generated n) fault
 -- this is a world that the input's scenario leads to
 abbrev pub IsReplay : List ℕ → Product → Type 0
 IsReplay input (product.Replayed world) = Replays input world
+IsReplay input (product.Ran world) = ⊥
 IsReplay input (product.Told words) = ⊥
 IsReplay input (product.Generated scenario) = ⊥
+
+-- this is a world that the input's partitions leave as threads
+abbrev pub IsRun : List ℕ → Product → Type 0
+IsRun input (product.Replayed world) = ⊥
+IsRun input (product.Ran world) = Runs input world
+IsRun input (product.Told words) = ⊥
+IsRun input (product.Generated scenario) = ⊥
 
 -- these are the words that the input tells as a dump
 abbrev pub IsTold : List ℕ → Product → Type 0
 IsTold input (product.Replayed world) = ⊥
+IsTold input (product.Ran world) = ⊥
 IsTold input (product.Told words) = IsDump input words
 IsTold input (product.Generated scenario) = ⊥
 
 -- this is the scenario of the number
 abbrev pub IsGenerated : ℕ → Product → Type 0
 IsGenerated n (product.Replayed world) = ⊥
+IsGenerated n (product.Ran world) = ⊥
 IsGenerated n (product.Told words) = ⊥
 IsGenerated n (product.Generated scenario) = scenario ≡ generated n
 
 -- this is a world that the scenario of the number leads to
 abbrev pub IsGeneratedReplay : ℕ → Product → Type 0
 IsGeneratedReplay n (product.Replayed world) = Leads (generated n) world
+IsGeneratedReplay n (product.Ran world) = ⊥
 IsGeneratedReplay n (product.Told words) = ⊥
 IsGeneratedReplay n (product.Generated scenario) = ⊥
 
 -- what the command makes of its input
 abbrev pub Does : ToolCommand → List ℕ → Product → Type 0
 Does Replay input made = IsReplay input made
+Does Run input made = IsRun input made
 Does Dump input made = IsReplay input made
 Does Decode input made = IsTold input made
 Does (Gen n) input made = IsGenerated n made
@@ -124,6 +175,7 @@ Does (Big n) input made = IsGeneratedReplay n made
 -- the text that the command writes of it; none of what another command makes
 abbrev pub text_of : ToolCommand → Product → List ℕ
 text_of Replay (product.Replayed world) = report_of world.nodes.items
+text_of Run (product.Ran world) = report_of world.nodes.items
 text_of Dump (product.Replayed world) = dump_bytes world.words
 text_of Decode (product.Told words) = listing_of words
 text_of (Gen n) (product.Generated scenario) = printed scenario
@@ -133,12 +185,14 @@ text_of command made = []
 -- the world that is left of it
 abbrev pub end_of : Product → Option World
 end_of (product.Replayed world) = Some world
+end_of (product.Ran world) = Some world
 end_of (product.Told words) = None
 end_of (product.Generated scenario) = None
 
 -- the command leaves a world
 abbrev pub LeavesWorld : ToolCommand → Type 0
 LeavesWorld Replay = Unit {0}
+LeavesWorld Run = Unit {0}
 LeavesWorld Dump = Unit {0}
 LeavesWorld Decode = ⊥
 LeavesWorld (Gen n) = ⊥

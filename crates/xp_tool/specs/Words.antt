@@ -6,15 +6,16 @@ use Rattle.clap.specs.Simple.{App, new_app, new_shape, new_rule, with_rule}
 use Rattle.clap.specs.Walk.{Row, Rule, first_of}
 use Rattle.xp_text.specs.Numbers.{digits_of}
 use Rattle.xp_tool.specs.declared.command.ToolCommand.{ToolCommand}
-use Rattle.xp_tool.specs.declared.command.ToolCommand.TheVariants.{Replay, Dump, Decode, Gen, Big}
+use Rattle.xp_tool.specs.declared.command.ToolCommand.TheVariants.{Replay, Run, Dump, Decode, Gen, Big}
 use Rattle.xp_tool.specs.declared.words.TheConstants.{NUMBER_DIGITS}
 
 -- the command of a name alone
 abbrev pub named_of : List ℕ → Option ToolCommand
 named_of name =
     if bytes_eq (codes "replay") name then Some Replay
+    else (if bytes_eq (codes "run") name then Some Run
     else (if bytes_eq (codes "dump") name then Some Dump
-    else (if bytes_eq (codes "decode") name then Some Decode else None))
+    else (if bytes_eq (codes "decode") name then Some Decode else None)))
 
 -- the command of a name and a number
 abbrev pub numbered_of : List ℕ → ℕ → Option ToolCommand
@@ -74,6 +75,7 @@ grammar_app = record {
     disable_help_subcommand = true;
     subcommand_required = true;
   };
-  subs = new_shape (codes "replay") ∷ new_shape (codes "dump") ∷ new_shape (codes "decode")
-      ∷ (numbered_app (codes "gen")).top ∷ (numbered_app (codes "big")).top ∷ [];
+  subs = new_shape (codes "replay") ∷ new_shape (codes "run") ∷ new_shape (codes "dump")
+      ∷ new_shape (codes "decode") ∷ (numbered_app (codes "gen")).top
+      ∷ (numbered_app (codes "big")).top ∷ [];
 }

@@ -7,6 +7,8 @@ ghost use Rattle.xp_tool.specs.Command.{is_plain};
 pub enum ToolCommand {
     /// Replays a scenario, and writes the report.
     Replay,
+    /// Runs the partitions of a scenario as threads, and writes the report.
+    Run,
     /// Replays a scenario, and writes the dump of the words that it leaves.
     Dump,
     /// Reads a dump, and writes its listing.
@@ -33,6 +35,7 @@ impl ToolCommand {
             | ToolCommand::Decode
             | ToolCommand::Gen { .. }
             | ToolCommand::Big { .. } => true,
+            ToolCommand::Run => false,
         }
     }
 }

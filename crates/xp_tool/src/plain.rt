@@ -1,26 +1,19 @@
-// The top call: a command's words, its input and its output.
-ghost use Rattle.std.specs.Prelude.{◌≡◌, ◌≢◌, ℕ, ◌<◌, ◌≤◌, ◌-◌, ◌^◌, ◌↔◌, ◌⊎◌, List, length, None, IfOk, IfErr, IsSome, IsSomeAnd};
+// The top call without threads: a command's words, its input and its output.
+ghost use Rattle.std.specs.Prelude.{◌≡◌, ◌≢◌, ℕ, ◌<◌, ◌≤◌, ◌-◌, ◌^◌, ◌↔◌, ◌⊎◌, List, length, true, None, IfOk, IfErr, IfSome, IsSome, IsSomeAnd};
 ghost use Rattle.xp_outside.specs.Causes.{Rose};
-ghost use Rattle.xp_tool.specs.Command.{LeavesWorld};
+ghost use Rattle.xp_tool.specs.Command.{is_plain, LeavesWorld};
 ghost use Rattle.xp_tool.specs.Plain.{plain_command_of, Headline, Cut, WritesFront, IsBad, IsTooLong, IsGood, IsWrong, IsPastLimit};
-ghost use Rattle.xp_tool.specs.Made.{Wrote, Outcome};
+ghost use Rattle.xp_tool.specs.Made.{Outcome};
 
 use crate::command::ToolCommand;
-use crate::product::{Made, make};
+pub use crate::ending::Done;
+use crate::ending::{failed, write_out};
+use crate::product::make;
 use crate::status::{InputFault, Status};
 use crate::words::{Word, command};
 use std::alloc::{AllocError, Global};
-use xp_outside::sink::{Sink, SinkFault, write_all};
+use xp_outside::sink::Sink;
 use xp_outside::source::Source;
-use xp_world::world::World;
-
-/// How a call ended, and the world that it left. There is one exactly where the command leaves a
-/// world and the status is `Ok` or `WriteFault`.
-#[derive(Drop)]
-pub struct Done {
-    pub status: Status,
-    pub end: Option<World>,
-}
 
 /// Does the command that some words are, where it needs no threads. Nothing is written before the
 /// whole text is made.
@@ -100,8 +93,13 @@ pub fn plain<S: Source, K: Sink>(
     perform(alloc, words, source, sink)
 }
 
-// Does the command, and says of each status when it comes.
-fn perform<S: Source, K: Sink>(alloc: Global, words: &[Word], source: &mut S, sink: &mut K) -> Done
+/// Does the command where it needs no threads, and says of each status when it comes.
+pub fn perform<S: Source, K: Sink>(
+    alloc: Global,
+    words: &[Word],
+    source: &mut S,
+    sink: &mut K,
+) -> Done
     requires reads { S.faults source.old < 2 ^ 64 - 1 }
     requires writes { K.faults sink.old < 2 ^ 64 - 1 }
     ensures { Outcome S.left S.faults K.held K.faults (plain_command_of words.now)
@@ -120,36 +118,12 @@ fn perform<S: Source, K: Sink>(alloc: Global, words: &[Word], source: &mut S, si
 
 // The command that some words are, where it needs no threads.
 fn plain_command(alloc: Global, words: &[Word]) -> Result<Option<ToolCommand>, AllocError>
-    ensures { IfOk result (λ command. command ≡ plain_command_of words.now) }
+    ensures is { IfOk result (λ command. command ≡ plain_command_of words.now) }
+    ensures plain { IfOk result
+        (λ command. IfSome command (λ command. is_plain command ≡ true)) }
 {
     match command(alloc, words)? {
         Some(command) if command.is_plain() => Ok(Some(command)),
         _ => Ok(None),
     }
-}
-
-// Writes the text that was made.
-fn write_out<K: Sink>(sink: &mut K, made: Made) -> Done
-    requires { K.faults sink.old < 2 ^ 64 - 1 }
-    ensures { Wrote made.product made.text.items (K.held sink.old) (K.held sink.new)
-        (K.faults sink.old) (K.faults sink.new) result.end result.status }
-{
-    match write_all(sink, &made.text) {
-        Ok(()) => Done {
-            status: Status::Ok,
-            end: made.product.into_end(),
-        },
-        Err(SinkFault::Failed) => Done {
-            status: Status::WriteFault,
-            end: made.product.into_end(),
-        },
-        Err(SinkFault::Memory) => failed(Status::NoMemory),
-    }
-}
-
-fn failed(status: Status) -> Done
-    ensures status { result.status ≡ status }
-    ensures end { result.end ≡ None }
-{
-    Done { status, end: None }
 }

@@ -67,6 +67,7 @@ fn grammar<'a>(alloc: Global) -> Result<Command<'a>, AllocError>
         .subcommand_required(true);
     program
         .subcommand(Command::new(alloc, "replay"))?
+        .subcommand(Command::new(alloc, "run"))?
         .subcommand(Command::new(alloc, "dump"))?
         .subcommand(Command::new(alloc, "decode"))?
         .subcommand(numbered_grammar(alloc, "gen")?)?
@@ -98,6 +99,7 @@ fn named(name: &str) -> Option<ToolCommand>
 {
     match name {
         "replay" => Some(ToolCommand::Replay),
+        "run" => Some(ToolCommand::Run),
         "dump" => Some(ToolCommand::Dump),
         "decode" => Some(ToolCommand::Decode),
         _ => None,

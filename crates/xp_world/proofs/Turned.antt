@@ -1,14 +1,21 @@
 -- What the calls of a node come to in one turn.
-use Rattle.std.proofs.Common.{◌≡◌, ℕ, ◌+◌, ◌<◌, ◌≤◌, Bool, true, false, ◌||◌, Option, Some, None, refl, ap, sym, ◌∙◌, subst, arith, inl, inr}
-use Rattle.std.specs.Prelude.{is_some, IsTrue}
+use Rattle.std.proofs.Common.{◌≡◌, ℕ, ◌+◌, ◌<◌, ◌≤◌, Bool, true, false, ◌||◌, List, [], ◌∷◌, ◌++◌, map, Option, Some, None, refl, ap, sym, ◌∙◌, subst, arith, inl, inr, append-nil}
+use Rattle.std.specs.Prelude.{is_some, IsTrue, IfSome}
 use Rattle.xp_base.specs.Memory.{Memory}
+use Rattle.xp_base.specs.declared.step.CopyMark.{CopyMark}
+use Rattle.xp_base.specs.declared.step.Step.{Step}
 use Rattle.xp_base.specs.declared.step.Answer.{Answer}
+use Rattle.xp_base.specs.declared.step.OpKind.{OpKind}
+use Rattle.xp_base.specs.declared.step.OpKind.TheVariants.{Load}
 use Rattle.xp_base.specs.declared.step.Wanted.{Wanted}
-use Rattle.xp_base.specs.History.{Marked, IsAnswer, IsAnswered, after_answer, after_made}
+use Rattle.xp_base.specs.History.{Marked}
+use Rattle.xp_fabric.specs.Steps.{PartStep, part_step, step_of, LegalSteps}
+use Rattle.xp_script.specs.declared.part.ScenarioPart.{ScenarioPart}
+use Rattle.xp_protocol.specs.Parts.{fails_at}
 use Rattle.xp_protocol.specs.State.{State, Life, Booting, Up, Halted}
 use Rattle.xp_protocol.specs.Runs.{is_halted, is_done, has_ended}
-use Rattle.xp_node.specs.Node.{NodeView, IsEnded, MakesTurn, answered_by, done_by, ended_up, ended_by, ended_of}
-use Rattle.xp_world.specs.Turning.{TurnsOnce, StaysEnded, TakesTurn}
+use Rattle.xp_node.specs.Node.{NodeView, IsEnded, MakesTurn, IsStep, steps_made, answered_by, done_by, ended_up, ended_by, ended_of}
+use Rattle.xp_world.specs.Turning.{TurnsOver, TurnsPlain, TurnsOnce, TakesTurn, TakesPlain}
 
 -- a node tells how it has ended exactly where no turn comes any more
 done_some : (done : Bool) → is_some (done_by done) ≡ done
@@ -36,7 +43,7 @@ goes_on n e h =
     absurd (cc)
 
 -- a turn reads neither the step that waits nor the room
-same_turn : (old new : NodeView) (w : Option Wanted) (room : ℕ) (made : Option Marked) → old.room ≤ room → MakesTurn (record old { waiting = w; room = room }) new made → MakesTurn old new made
+unfoldable pub same_turn : (old new : NodeView) (w : Option Wanted) (room : ℕ) (made : Option Marked) → old.room ≤ room → MakesTurn (record old { waiting = w; room = room }) new made → MakesTurn old new made
 same_turn old new w room made low h = record {
   turn = h.turn;
   step = h.step;
@@ -56,26 +63,53 @@ same_turn old new w room made low h = record {
   room = omega (arith, h.room, low);
 }
 
-pub made_step : (m m' : Memory) (old mid new : NodeView) (w : Wanted) (a : Answer) → (IsEnded old → ⊥) → mid ≡ record old { waiting = Some w } → MakesTurn mid new (Some (answered_by w a)) → IsAnswer m w.op a → m' ≡ after_answer m w.op a → TurnsOnce m old m' new
-made_step m m' old mid new w a running e h answered words =
+-- a step that is to fail has a mark, so it is a load
+load_by : (s : ScenarioPart) (kind : OpKind) (mark : Option CopyMark) → fails_at s mark ≡ true → IfSome mark (λ m. kind ≡ Load) → kind ≡ Load
+load_by s kind None e h = absurd (cc)
+load_by s kind (Some m) e h = h
+
+pub fails_load : (s : ScenarioPart) (w : Wanted) → IsStep s w → fails_at s w.mark ≡ true → w.op.kind ≡ Load
+fails_load s w step e = load_by s w.op.kind w.mark e step.load
+
+pub made_step : (before after : List Step) (old mid new : NodeView) (w : Wanted) (a : Answer) → mid ≡ record old { waiting = Some w } → MakesTurn mid new (Some (answered_by w a)) → after ≡ before ++ step_of w.op a ∷ [] → TurnsOver old before new after
+made_step before after old mid new w a e h steps =
     let at = subst (λ (x : NodeView). MakesTurn x new (Some (answered_by w a))) e h in
     let low : old.room ≤ old.room = omega arith in
-    record { running = running; made = Some (answered_by w a); turns = same_turn old new (Some w) old.room (Some (answered_by w a)) low at; answered = answered; words = words }
+    record { made = Some (answered_by w a); turns = same_turn old new (Some w) old.room (Some (answered_by w a)) low at; steps = steps }
 
-pub made_none : (m : Memory) (old new : NodeView) → (IsEnded old → ⊥) → MakesTurn old new None → TurnsOnce m old m new
-made_none m old new running h = record { running = running; made = None; turns = h; answered = tt; words = refl }
+pub made_none : (before : List Step) (old new : NodeView) → MakesTurn old new None → TurnsOver old before new before
+made_none before old new h = record { made = None; turns = h; steps = sym (append-nil before) }
 
-pub took : (m m' : Memory) (old mid new : NodeView) → mid ≡ record old { room = mid.room } → old.room ≤ mid.room → TurnsOnce m mid m' new → TakesTurn m old m' new
-took m m' old mid new e low h =
-    let at = subst (λ (x : NodeView). TurnsOnce m x m' new) e h in
-    inr (record { running = at.running; made = at.made; turns = same_turn old new old.waiting mid.room at.made low at.turns; answered = at.answered; words = at.words })
+-- more room changes nothing of a turn
+pub took : (p : ℕ) (before after : List PartStep) (old mid new : NodeView) → mid ≡ record old { room = mid.room } → old.room ≤ mid.room → TurnsPlain p mid before new after → TurnsPlain p old before new after
+took p before after old mid new e low h =
+    let at = subst (λ (x : NodeView). TurnsPlain p x before new after) e h in
+    record { made = at.made; turns = same_turn old new old.waiting mid.room at.made low at.turns; steps = at.steps }
 
-pub stayed : (m : Memory) (n : NodeView) → is_some (ended_of n) ≡ true → TakesTurn m n m n
-stayed m n e = inl (record { ended = is_over n e; words = refl; node = refl })
+pub took_turn : (p : ℕ) (before after : List PartStep) (old mid new : NodeView) → is_some (ended_of old) ≡ false → mid ≡ record old { room = mid.room } → old.room ≤ mid.room → TurnsPlain p mid before new after → TakesPlain p old before new after
+took_turn p before after old mid new none e low h = inr (goes_on old none, took p before after old mid new e low h)
+
+pub stayed : (p : ℕ) (steps : List PartStep) (n : NodeView) → is_some (ended_of n) ≡ true → TakesPlain p n steps n steps
+stayed p steps n e = inl (is_over n e, refl, refl)
 
 pub running_on : (old mid : NodeView) → mid ≡ record old { room = mid.room } → is_some (ended_of old) ≡ false → IsEnded mid → ⊥
 running_on old mid e none h = goes_on old none (subst IsEnded e h)
 
+-- the turn of a node over a memory that was opened for it, and is closed after it
+closed_by : (p : ℕ) (m m' : Memory) (n n' : NodeView) (made : Option Marked) → (IsEnded n → ⊥) → MakesTurn n n' made → LegalSteps m (map (part_step p) (steps_made made)) m' → TurnsOnce m n m' n'
+closed_by p m m' n n' None running h legal = record { running = running; made = None; turns = h; answered = tt; words = legal }
+closed_by p m m' n n' (Some x) running h legal = record { running = running; made = Some x; turns = h; answered = legal.0; words = legal.1 }
+
+pub closed : (p : ℕ) (m m' : Memory) (n n' : NodeView) (before after : List PartStep) → before ≡ [] → TakesPlain p n before n' after → LegalSteps m after m' → TakesTurn m n m' n'
+closed p m m' n n' before after none (inl h) legal =
+    inl (record { ended = h.0; words = subst (λ (xs : List PartStep). LegalSteps m xs m') (h.1 ∙ none) legal; node = h.2 })
+closed p m m' n n' before after none (inr h) legal =
+    let steps : after ≡ map (part_step p) (steps_made h.1.made) =
+    h.1.steps ∙ ap (λ (xs : List PartStep). xs ++ map (part_step p) (steps_made h.1.made)) none in
+    inr (closed_by p m m' n n' h.1.made h.0 h.1.turns (subst (λ (xs : List PartStep). LegalSteps m xs m') steps legal))
+
+pub ruleset answering = (fails_load)
+
 pub ruleset turned = (made_step, made_none)
 
-pub ruleset taken = (took, stayed, running_on)
+pub ruleset taken = (took_turn, stayed, running_on)

@@ -85,8 +85,3 @@ abbrev pub StaysPromised : World → World → Type 0
 StaysPromised old new =
     (s : Scenario) (h : List Event) → IsLawful s → Reached s h old →
     (g : List Event) × Reached s g new × Promised s g new.words
-
--- these partitions take a turn, one after the other
-abbrev pub TakeTurns : List ℕ → World → World → Type 0
-TakeTurns [] old new = new ≡ old
-TakeTurns (p ∷ ps) old new = (next : World) × WorldTurns old next p × TakeTurns ps next new

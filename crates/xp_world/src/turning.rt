@@ -1,47 +1,18 @@
 // One turn of one node.
-ghost use Rattle.std.specs.Prelude.{◌≡◌, ◌<◌, length, OnOk, OnErr, None};
-ghost use Rattle.xp_base.specs.declared.layout.TheConstants.{PART_WORDS};
-ghost use Rattle.xp_base.specs.Memory.{word_at, answer_of, memory_after};
-ghost use Rattle.xp_base.specs.History.{IsAnswer, after_answer};
+ghost use Rattle.std.specs.Prelude.{◌≡◌, ◌<◌, ◌++◌, [], ◌∷◌, length, OnOk, OnErr, None};
+ghost use Rattle.xp_fabric.specs.Steps.{step_of};
 ghost use Rattle.xp_protocol.specs.Parts.{fails_at};
 ghost use Rattle.xp_protocol.specs.Runs.{is_failed};
 ghost use Rattle.xp_node.specs.Node.{IsStep, IsEnded};
-ghost use Rattle.xp_world.specs.Turning.{TakesTurn, TurnsOnce, IsSameNode};
+ghost use Rattle.xp_world.specs.Turning.{TakesTurn, TurnsOver, TurnsPlain, TakesPlain, IsSameNode};
 
-use std::alloc::AllocError;
-use xp_base::step::{Answer, CopyMark, Op, OpKind, Wanted};
+use std::alloc::{AllocError, Global};
+use xp_base::ids::PartId;
+use xp_base::step::{Answer, CopyMark, Wanted};
 use xp_base::words::Words;
+use xp_fabric::memory::Memory;
+use xp_fabric::plain::PlainMemory;
 use xp_node::node::Node;
-
-// Makes a step on the words, and gives its answer.
-fn perform(words: &mut Words, op: Op) -> u64
-    requires owner { op.owner < length words.old }
-    requires index { op.index < PART_WORDS }
-    ensures words { words.new ≡ memory_after words.old op }
-    ensures answer { result ≡ answer_of op.kind (word_at words.old op.owner op.index) }
-    ensures count { length words.new ≡ length words.old }
-{
-    let old = words.at(op.owner, op.index);
-    match op.kind {
-        OpKind::Load => old,
-        OpKind::Store(word) => {
-            words.set(op.owner, op.index, word);
-            0
-        }
-        OpKind::Or(word) => {
-            words.set(op.owner, op.index, old | word);
-            old
-        }
-        OpKind::And(word) => {
-            words.set(op.owner, op.index, old & word);
-            old
-        }
-        OpKind::Take => {
-            words.set(op.owner, op.index, 0);
-            old
-        }
-    }
-}
 
 // Whether a step with this mark, where it has one, is a load that is to fail.
 fn is_to_fail(node: &Node, mark: Option<CopyMark>) -> bool
@@ -54,40 +25,95 @@ fn is_to_fail(node: &Node, mark: Option<CopyMark>) -> bool
 }
 
 // Answers the step that a node wants: a load that is to fail touches no word.
-fn answer(words: &mut Words, node: &Node, wanted: Wanted) -> Answer
-    requires step { IsStep node.now.part wanted }
-    requires count { node.now.part.count ≡ length words.old }
-    ensures words { words.new ≡ after_answer words.old wanted.op result }
-    ensures answer { IsAnswer words.old wanted.op result }
-    ensures failed { is_failed result ≡ fails_at node.now.part wanted.mark }
-    ensures count { length words.new ≡ length words.old }
+#[tactic(auto, using(crate::proofs::Turned::answering))]
+fn answer<M: Memory>(port: &mut M, node: &Node, wanted: &Wanted) -> Answer
+    requires step { IsStep node.now.part wanted.now }
+    requires count { node.now.part.count ≡ M.count port.old }
+    requires room { 0 < M.room port.old }
+    ensures history { M.history port.new ≡ M.history port.old ++ step_of wanted.now.op result ∷ [] }
+    ensures failed { is_failed result ≡ fails_at node.now.part wanted.now.mark }
+    ensures partition { M.partition port.new ≡ M.partition port.old }
+    ensures count { M.count port.new ≡ M.count port.old }
+    ensures opening { M.opening port.new ≡ M.opening port.old }
+    ensures loan { M.loan port.new ≡ M.loan port.old }
 {
     if is_to_fail(node, wanted.mark) {
+        port.miss(wanted.op);
         Answer::Failed
     } else {
-        Answer::Word(perform(words, wanted.op))
+        Answer::Word(port.perform(wanted.op))
     }
 }
 
-// One turn of a node that hasn't ended and has room for it.
+/// One turn of a node through the port of its partition. The port's history grows by the turn's
+/// step, where it makes one. The node and the port have room for it, and no step of the node waits.
 #[tactic(auto, using(crate::proofs::Turned::turned))]
-fn make_turn(words: &mut Words, node: &mut Node)
-    requires count { node.old.part.count ≡ length words.old }
-    requires room { 0 < node.old.room }
+pub fn turn_over<M: Memory>(node: &mut Node, port: &mut M)
+    requires part { node.old.part.part ≡ M.partition port.old }
+    requires count { node.old.part.count ≡ M.count port.old }
     requires running { IsEnded node.old → ⊥ }
     requires idle { node.old.waiting ≡ None }
-    ensures turns { TurnsOnce words.old node.old words.new node.new }
-    ensures count { length words.new ≡ length words.old }
+    requires room { 0 < node.old.room }
+    requires port_room { 0 < M.room port.old }
+    ensures turns { TurnsOver node.old (M.history port.old) node.new (M.history port.new) }
+    ensures partition { M.partition port.new ≡ M.partition port.old }
+    ensures count { M.count port.new ≡ M.count port.old }
+    ensures opening { M.opening port.new ≡ M.opening port.old }
+    ensures loan { M.loan port.new ≡ M.loan port.old }
 {
     if let Some(wanted) = node.next() {
-        let given = answer(words, node, wanted);
+        let given = answer(port, node, &wanted);
         node.feed(given);
     }
 }
 
-/// One turn of a node over the words of its partitions; nothing where it has ended.
+// One turn of a node that hasn't ended, over plain memory.
+fn turn_plain(memory: &mut PlainMemory, node: &mut Node, part: PartId)
+    requires part { node.old.part.part ≡ part }
+    requires low { part < length memory.old.opening }
+    requires count { node.old.part.count ≡ length memory.old.opening }
+    requires running { IsEnded node.old → ⊥ }
+    requires idle { node.old.waiting ≡ None }
+    requires room { 0 < node.old.room }
+    requires memory_room { 0 < memory.old.room }
+    ensures turns { TurnsPlain part node.old memory.old.history node.new memory.new.history }
+    ensures opening { memory.new.opening ≡ memory.old.opening }
+{
+    let mut port = memory.port(part);
+    turn_over(node, &mut port);
+}
+
+/// One turn of a partition's node over plain memory; nothing where it has ended.
 #[tactic(auto, using(crate::proofs::Turned::taken))]
-pub fn turn_node(words: &mut Words, node: &mut Node) -> Result<(), AllocError>
+pub fn take_turn(memory: &mut PlainMemory, node: &mut Node, part: PartId) -> Result<(), AllocError>
+    requires part { node.old.part.part ≡ part }
+    requires low { part < length memory.old.opening }
+    requires count { node.old.part.count ≡ length memory.old.opening }
+    requires idle { node.old.waiting ≡ None }
+    ensures ok { OnOk result
+        (TakesPlain part node.old memory.old.history node.new memory.new.history) }
+    ensures err { OnErr result (IsSameNode node.old node.new) }
+    ensures opening { memory.new.opening ≡ memory.old.opening }
+{
+    if node.ended().is_some() {
+        return Ok(());
+    }
+    node.reserve_turn()?;
+    memory.reserve()?;
+    turn_plain(memory, node, part);
+    Ok(())
+}
+
+/// One turn of a partition's node over the words of all partitions; nothing where it has ended. It
+/// is made over a copy of the words.
+pub fn turn_node(
+    alloc: Global,
+    words: &mut Words,
+    node: &mut Node,
+    part: PartId,
+) -> Result<(), AllocError>
+    requires part { node.old.part.part ≡ part }
+    requires low { part < length words.old }
     requires count { node.old.part.count ≡ length words.old }
     requires idle { node.old.waiting ≡ None }
     ensures ok { OnOk result (TakesTurn words.old node.old words.new node.new) }
@@ -95,10 +121,8 @@ pub fn turn_node(words: &mut Words, node: &mut Node) -> Result<(), AllocError>
     ensures err_words { OnErr result (words.new ≡ words.old) }
     ensures count { length words.new ≡ length words.old }
 {
-    if node.ended().is_some() {
-        return Ok(());
-    }
-    node.reserve_turn()?;
-    make_turn(words, node);
+    let mut memory = PlainMemory::open(alloc, words)?;
+    take_turn(&mut memory, node, part)?;
+    memory.close(words);
     Ok(())
 }

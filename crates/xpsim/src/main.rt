@@ -4,10 +4,10 @@
 use std::process::ExitCode;
 use std::vec::Vec;
 use std::{env, io};
-use xp_tool::plain::plain;
 use xp_tool::status::{Status, fault_text};
+use xp_tool::tool::tool;
 use xp_tool::words::Word;
-use xp_tool::{StdSink, StdSource};
+use xp_tool::{OpenGate, StdSink, StdSource};
 
 fn arguments(rt: &HostRuntime) -> io::Result<Vec<Word>> {
     let mut words = Vec::new(rt.alloc());
@@ -33,7 +33,7 @@ fn run(rt: &HostRuntime) -> Status {
     };
     let mut source = StdSource::new(rt.stdin());
     let mut sink = StdSink::new(rt.stdout());
-    plain(rt.alloc(), &words, &mut source, &mut sink).status
+    tool(rt, rt.alloc(), &words, &mut source, &mut sink, &OpenGate).status
 }
 
 fn main(rt: HostRuntime) -> ExitCode {

@@ -22,5 +22,6 @@ returns c =
     let one = c.in_ok-subcommand.ensures.shape c.new-2.ensures.local ∙ ap₂ with_subcommand program (ap top c.new-2.ensures.app) in
     let two = c.in_ok-subcommand-2.ensures.shape c.new-3.ensures.local ∙ ap₂ with_subcommand one (ap top c.new-3.ensures.app) in
     let three = c.in_ok-subcommand-3.ensures.shape c.new-4.ensures.local ∙ ap₂ with_subcommand two (ap top c.new-4.ensures.app) in
-    let four = c.in_ok-subcommand-4.ensures.shape c.in_ok-numbered_grammar.ensures.local ∙ ap₂ with_subcommand three (ap top c.in_ok-numbered_grammar.ensures.app) in
-    IfOk-weaker c.subcommand-5.result _ _ (λ r h. h.shape c.in_ok-numbered_grammar-2.ensures.local ∙ ap₂ with_subcommand four (ap top c.in_ok-numbered_grammar-2.ensures.app)) c.subcommand-5.ensures
+    let four = c.in_ok-subcommand-4.ensures.shape c.new-5.ensures.local ∙ ap₂ with_subcommand three (ap top c.new-5.ensures.app) in
+    let five = c.in_ok-subcommand-5.ensures.shape c.in_ok-numbered_grammar.ensures.local ∙ ap₂ with_subcommand four (ap top c.in_ok-numbered_grammar.ensures.app) in
+    IfOk-weaker c.subcommand-6.result _ _ (λ r h. h.shape c.in_ok-numbered_grammar-2.ensures.local ∙ ap₂ with_subcommand five (ap top c.in_ok-numbered_grammar-2.ensures.app)) c.subcommand-6.ensures

@@ -1,0 +1,9 @@
+pub mod Counting
+pub mod Works
+pub mod Places
+pub mod JobLemmas
+pub mod Running
+pub mod CrossingWords
+pub mod CrossingEnds
+pub mod CrossingNodes
+pub mod CrossingJobs
