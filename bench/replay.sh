@@ -4,6 +4,7 @@
 #   idle  16,000,000 written turns: a take that no message comes for, beside a partition that has ended
 #   busy  22,000 messages sent, taken and released through a queue of 8 entries, in 16,000,000 written turns
 #   pairs 5,500 messages in each of four pairs of partitions, in 16,000,000 written turns
+#   long  16,000 messages of 1,008 bytes, each of which fills the queue, in 16,000,000 written turns
 # Where rustc is there, bench/baseline.rs replays the first two: a plain program that proves nothing, keeps no history and
 # knows two partitions alone.
 # Times are processor seconds, of the program and of the system for it. Other load makes them longer.
@@ -51,6 +52,17 @@ make_pairs() {
     }'
 }
 
+make_long() {
+    awk 'BEGIN {
+        messages = 16000
+        print "xpsim 1\npartitions 2\nminor 0 2\nminor 1 2\nwarm 0 1 0 entries 1 limit 1008\nscript 0"
+        for (k = 0; k < messages; k++) print "send 1 0 1008*61"
+        print "script 1"
+        for (k = 0; k < messages; k++) print "take 0 0\nrelease 0 0 " k
+        print "schedule\nrounds 8000000"
+    }'
+}
+
 . "$here/measure.sh"
 
 line() { # who seconds KiB turns
@@ -73,7 +85,7 @@ if command -v rustc >/dev/null 2>&1; then
 fi
 
 failed=0
-for name in idle busy pairs; do
+for name in idle busy pairs long; do
     "make_$name" >"$folder/$name.xp"
     echo "$name: $turns written turns"
     read -r seconds memory status < <(measure "$folder/$name.xp" "$folder/$name.report" "$program" replay)
@@ -83,7 +95,8 @@ for name in idle busy pairs; do
         continue
     fi
     line xpsim "$seconds" "$memory" "$turns"
-    [ -n "$baseline" ] && [ "$name" != pairs ] || continue
+    [ -n "$baseline" ] || continue
+    case "$name" in pairs | long) continue ;; esac
     read -r plain_seconds plain_memory status < <(measure "$folder/$name.xp" "$folder/$name.plain" "$baseline" replay)
     [ "${status:-1}" = 0 ] || continue
     line baseline "$plain_seconds" "$plain_memory" "$turns"

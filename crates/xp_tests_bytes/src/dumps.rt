@@ -178,21 +178,21 @@ pub fn fault_of(alloc: Global, bytes: &[u8], size: usize) -> Option<Place>
     }
 }
 
-fn is_listed(rt: &impl Abort, alloc: Global, words: &Words) -> Result<(), AllocError> {
-    let text = listing(alloc, words)?;
-    assert!(rt; text.as_slice() == LISTING.as_bytes());
-    Ok(())
-}
-
 /// How many bytes a piece has.
 const PIECES: [usize; 3] = [1, 7, 4096];
 
-fn is_listed_in_pieces(rt: &impl Abort, alloc: Global, sample: &Sample) -> Result<(), Fail> {
-    let bytes = bytes_of(alloc, sample)?;
+/// The dump is listed so, in pieces of each length.
+fn is_listed_in_pieces(
+    rt: &impl Abort,
+    alloc: Global,
+    bytes: &[u8],
+    wanted: &str,
+) -> Result<(), Fail> {
     for size in &PIECES {
         if *size > 0 {
-            let words = read(alloc, &bytes, *size)?;
-            is_listed(rt, alloc, &words)?;
+            let words = read(alloc, bytes, *size)?;
+            let text = listing(alloc, &words)?;
+            assert!(rt; text.as_slice() == wanted.as_bytes(), "by {size} bytes");
         }
     }
     Ok(())
@@ -200,8 +200,39 @@ fn is_listed_in_pieces(rt: &impl Abort, alloc: Global, sample: &Sample) -> Resul
 
 #[test]
 fn listed_in_pieces(rt: HostRuntime) -> Result<(), Fail> {
-    is_listed_in_pieces(&rt, rt.alloc(), &OLDER)?;
-    is_listed_in_pieces(&rt, rt.alloc(), &NEWER)
+    for sample in [&OLDER, &NEWER] {
+        let bytes = bytes_of(rt.alloc(), sample)?;
+        is_listed_in_pieces(&rt, rt.alloc(), &bytes, LISTING)?;
+    }
+    Ok(())
+}
+
+/// Partition 1 has minor version 2, and partition 0 has set three flags there: the version word and the flag word of each
+/// layout, by their numbers.
+const FLAGGED: [(&Sample, usize, usize); 2] = [(&OLDER, 5915, 5994), (&NEWER, 36_435, 36_962)];
+
+/// The listing of both.
+const FLAGGED_LISTING: &str = "listing 1
+partition 0 version 3.1 stamp 1 partitions 3
+  vars beat 1 mask 2 offline 0 activation 0 engaged 2 deactivate 0
+  record 1 second session 1.1 echo 1.1
+  args 1 0 entries 4 limit 112 queue 2640 reason 0
+partition 1 version 3.2 stamp 1 partitions 3
+  vars beat 1 mask 1 offline 0 activation 0 engaged 1 deactivate 0
+  record 0 second session 1.1 echo 1.1
+  flags 0 0 closerequest closereply openrequest
+  args 0 0 entries 4 limit 112 queue 2128 reason 0
+";
+
+#[test]
+fn flags_listed_in_pieces(rt: HostRuntime) -> Result<(), Fail> {
+    for (sample, version, flags) in FLAGGED {
+        let mut bytes = bytes_of(rt.alloc(), sample)?;
+        put(&mut bytes, version, 50);
+        put(&mut bytes, flags, 7);
+        is_listed_in_pieces(&rt, rt.alloc(), &bytes, FLAGGED_LISTING)?;
+    }
+    Ok(())
 }
 
 /// The first nine bytes, one byte more, and another owner, in pieces.

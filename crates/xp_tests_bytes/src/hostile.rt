@@ -386,6 +386,27 @@ fn is_no_signature(fault: DumpFault) -> bool {
     }
 }
 
+/// Zeros are refused as soon as their first word is whole.
+#[test]
+fn zeros_in_pieces(rt: HostRuntime) {
+    for (count, wanted) in [
+        (0usize, (0, PageCause::Truncated)),
+        (7, (7, PageCause::Truncated)),
+        (8, (0, PageCause::Signature)),
+        (4096, (0, PageCause::Signature)),
+    ] {
+        let zeros = [0u8; 4096];
+        let wanted = Some((wanted.0, Some(wanted.1)));
+        is_answered(
+            &rt,
+            rt.alloc(),
+            &zeros[..count.min(4096)],
+            wanted,
+            count as u64,
+        );
+    }
+}
+
 /// Endless zeros, and a dump behind them: the first fault is told again, whatever comes.
 #[test]
 fn zeros(rt: HostRuntime) -> Result<(), Fail> {

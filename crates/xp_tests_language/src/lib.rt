@@ -6,6 +6,10 @@
 #[cfg(test)]
 mod lines;
 #[cfg(test)]
+mod listings;
+#[cfg(test)]
+mod meetings;
+#[cfg(test)]
 mod mutated;
 #[cfg(test)]
 mod order;
@@ -15,6 +19,8 @@ mod pairs;
 mod places;
 #[cfg(test)]
 mod printed;
+#[cfg(test)]
+mod queues;
 #[cfg(test)]
 mod replayed;
 #[cfg(test)]

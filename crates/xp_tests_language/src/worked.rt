@@ -1,15 +1,15 @@
 // Worked scenarios with their reports, and worked texts that are refused, with their lines, by the
 // top call.
 use crate::replayed::{expect_line, replayed};
-use std::alloc::Global;
+use std::alloc::{AllocError, Global};
 use std::process::Abort;
 use std::test::Fail;
 use xp_tool::status::Status;
 
 /// A scenario, and its report.
-type Row = (&'static [u8], &'static [u8]);
+pub type Row = (&'static [u8], &'static [u8]);
 
-const WORKED: [Row; 8] = [
+const WORKED: [Row; 12] = [
     // One message is sent, taken and released.
     (
         b"xpsim 1
@@ -230,7 +230,137 @@ partition 1 done boots 1
   link 0 0 epoch 0 own 1.1 partner 1.1 accepted 0 taken 0 acked 0 delivered 0 ended 0
 ",
     ),
+    // The one has sent before the other one looks.
+    (
+        b"xpsim 1
+partitions 2
+warm 0 1 0 entries 4 limit 112
+script 0
+send 1 0 61
+idle 40000
+script 1
+take 0 0 nowait
+idle 40000
+schedule
+turns 0 32768
+turns 1 100000
+turns 0 100000
+",
+        b"report 1
+partition 0 done boots 1
+  1 1 send ok 0
+  1 2 idle ok
+  link 1 0 epoch 0 own 1.1 partner 1.1 accepted 1 taken 0 acked 0 delivered 0 ended 0
+partition 1 done boots 1
+  1 1 take ok 0 1:61
+  1 2 idle ok
+  link 0 0 epoch 0 own 1.1 partner 1.1 accepted 0 taken 1 acked 0 delivered 0 ended 0
+",
+    ),
+    // The one sends after the other one looked.
+    (
+        b"xpsim 1
+partitions 2
+warm 0 1 0 entries 4 limit 112
+script 0
+send 1 0 61
+idle 40000
+script 1
+take 0 0 nowait
+idle 40000
+schedule
+turns 1 32768
+turns 0 100000
+turns 1 100000
+",
+        b"report 1
+partition 0 done boots 1
+  1 1 send ok 0
+  1 2 idle ok
+  link 1 0 epoch 0 own 1.1 partner 1.1 accepted 1 taken 0 acked 0 delivered 0 ended 0
+partition 1 done boots 1
+  1 1 take empty 0
+  1 2 idle ok
+  link 0 0 epoch 0 own 1.1 partner 1.1 accepted 0 taken 0 acked 0 delivered 0 ended 0
+",
+    ),
+    // A load of get is planned to fail, and no send needs one.
+    (
+        b"xpsim 1
+partitions 2
+warm 0 1 0 entries 4 limit 112
+fault 0 get 1
+script 0
+send 1 0 aa
+send 1 0 bb
+schedule
+rounds 20000
+",
+        b"report 1
+partition 0 done boots 1
+  1 1 send ok 0
+  1 2 send ok 1
+  link 1 0 epoch 0 own 1.1 partner 1.1 accepted 2 taken 0 acked 0 delivered 0 ended 0
+partition 1 done boots 1
+  link 0 0 epoch 0 own 1.1 partner 1.1 accepted 0 taken 0 acked 0 delivered 0 ended 0
+",
+    ),
+    // A message of a whole queue, and one a byte longer.
+    (
+        b"xpsim 1
+partitions 2
+minor 0 2
+minor 1 2
+warm 0 1 0 entries 1 limit 1008
+script 0
+send 1 0 1008*61
+send 1 0 1009*61
+script 1
+take 0 0
+release 0 0 0
+schedule
+rounds 20000
+",
+        b"report 1
+partition 0 done boots 1
+  1 1 send ok 0
+  1 2 send too-big 1009 1008
+  link 1 0 epoch 0 own 1.1 partner 1.1 accepted 1 taken 0 acked 0 delivered 0 ended 0
+partition 1 done boots 1
+  1 1 take ok 0 1008:6161616161616161..6161616161616161
+  1 2 release ok 1
+  link 0 0 epoch 0 own 1.1 partner 1.1 accepted 0 taken 1 acked 1 delivered 0 ended 0
+",
+    ),
 ];
+
+/// The first and the last of 64 partitions share a channel.
+const FIRST_AND_LAST: &[u8] = b"xpsim 1
+partitions 64
+warm 0 63 0 entries 4 limit 112
+script 0
+send 63 0 6869
+script 63
+take 0 0
+release 0 0 0
+schedule
+rounds 40000
+";
+
+/// Its report: the partitions between the two are done before their first turn.
+fn report_of_first_and_last(alloc: Global) -> Result<String, AllocError> {
+    let mut text = String::new(alloc);
+    writeln!(text, "report 1\npartition 0 done boots 1\n  1 1 send ok 0")?;
+    write!(text, "  link 63 0 epoch 0 own 1.1 partner 1.1 ")?;
+    writeln!(text, "accepted 1 taken 0 acked 0 delivered 0 ended 0")?;
+    for part in 1..64u8 {
+        writeln!(text, "partition {part} done boots 1")?;
+    }
+    writeln!(text, "  1 1 take ok 0 2:6869\n  1 2 release ok 1")?;
+    write!(text, "  link 0 0 epoch 0 own 1.1 partner 1.1 ")?;
+    writeln!(text, "accepted 0 taken 1 acked 1 delivered 0 ended 0")?;
+    Ok(text)
+}
 
 /// Worked texts that are refused, each with its line on standard error.
 const REFUSED: [(&[u8], &str); 3] = [
@@ -256,7 +386,7 @@ register 1 0 entries 2 limit 1008
 ];
 
 /// The replay of a scenario leaves a world and writes this report.
-fn expect_report(
+pub fn expect_report(
     rt: &impl Abort,
     alloc: Global,
     scenario: &[u8],
@@ -274,6 +404,12 @@ fn worked_scenarios(rt: HostRuntime) -> Result<(), Fail> {
         expect_report(&rt, rt.alloc(), scenario, report)?;
     }
     Ok(())
+}
+
+#[test]
+fn worked_first_and_last(rt: HostRuntime) -> Result<(), Fail> {
+    let report = report_of_first_and_last(rt.alloc())?;
+    expect_report(&rt, rt.alloc(), FIRST_AND_LAST, report.as_bytes())
 }
 
 #[test]

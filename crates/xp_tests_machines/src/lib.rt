@@ -7,6 +7,8 @@ mod planner;
 #[cfg(test)]
 mod pull_side;
 #[cfg(test)]
+mod queues;
+#[cfg(test)]
 mod rounds;
 #[cfg(test)]
 mod send_side;

@@ -313,7 +313,7 @@ const OPENINGS: [(&[u8], Finding); 16] = [
 type Lines = (&'static [u8], u32);
 
 /// Lines behind the opening that stand again and again, with those behind them.
-const LONG: [(&[Lines], Finding); 12] = [
+const LONG: [(&[Lines], Finding); 13] = [
     (
         &[(b"restart 0 put 1\n", 63), (b"restart 1 turn 5\n", 63)],
         Finding::Right,
@@ -362,13 +362,17 @@ const LONG: [(&[Lines], Finding); 12] = [
         Finding::Many(What::Settings, 1_024),
     ),
     (
+        &[(b"script 0\n", 65), (b"schedule\nrounds 5333334\n", 1)],
+        Finding::Many(What::Turns, 16_000_000),
+    ),
+    (
         &[(b"script 0\n", 65), (b"leave now\n", 1)],
         Finding::Line(68, 7, LineCause::Extra),
     ),
 ];
 
-/// As many bytes of payloads as a scenario may have, and more beside too many of something else.
-const HEAVY: [(&[Lines], Finding); 3] = [
+/// As many bytes of payloads as a scenario may have, and one more; and too many bytes or commands beside too many of something else.
+const HEAVY: [(&[Lines], Finding); 9] = [
     (
         &[(b"script 0\n", 1), (b"send 1 0 4096*61\n", 4_096)],
         Finding::Right,
@@ -387,6 +391,46 @@ const HEAVY: [(&[Lines], Finding); 3] = [
             (b"send 1 0 4096*61\n", 4_097),
             (b"leave\n", 95_904),
         ],
+        Finding::Many(What::Commands, 100_000),
+    ),
+    (
+        &[
+            (b"script 0\n", 1),
+            (b"send 1 0 4096*61\n", 4_096),
+            (b"send 1 0 00\n", 1),
+        ],
+        Finding::Many(What::PayloadBytes, 16_777_216),
+    ),
+    (
+        &[
+            (b"fault 0 get 1\n", 1_025),
+            (b"script 0\n", 1),
+            (b"send 1 0 4096*61\n", 4_097),
+        ],
+        Finding::Many(What::PayloadBytes, 16_777_216),
+    ),
+    (
+        &[(b"script 0\n", 65), (b"send 1 0 4096*61\n", 4_097)],
+        Finding::Many(What::PayloadBytes, 16_777_216),
+    ),
+    (
+        &[
+            (b"script 0\n", 1),
+            (b"leave\n", 100_001),
+            (b"schedule\nrounds 5333334\n", 1),
+        ],
+        Finding::Many(What::Commands, 100_000),
+    ),
+    (
+        &[
+            (b"fault 0 get 1\n", 1_025),
+            (b"script 0\n", 1),
+            (b"leave\n", 100_001),
+        ],
+        Finding::Many(What::Commands, 100_000),
+    ),
+    (
+        &[(b"script 0\n", 65), (b"leave\n", 100_001)],
         Finding::Many(What::Commands, 100_000),
     ),
 ];

@@ -96,6 +96,72 @@ fn fails_at_each_load(rt: HostRuntime) -> Result<(), Fail> {
     Ok(())
 }
 
+/// Queues that are full when the other looks: of eight messages, and of one that takes eight lines. What a report says where
+/// the run fails.
+const WHOLE_QUEUES: [(Frame, &[&str]); 2] = [
+    (
+        Frame {
+            settings: "warm 0 1 0 entries 8 limit 112\n",
+            scripts: "script 0
+send 1 0 01
+send 1 0 02
+send 1 0 03
+send 1 0 04
+send 1 0 05
+send 1 0 06
+send 1 0 07
+send 1 0 08
+script 1
+take 0 0
+",
+            schedule: ENDED,
+        },
+        &[
+            "partition 0 done boots 1",
+            "  1 8 send ok 7",
+            "  link 1 0 epoch 0 own 1.1 partner 1.1 accepted 8 taken 0 acked 0 delivered 0 ended 0",
+            "partition 1 done boots 1",
+            "  1 1 take disconnecting copy-error entries 1",
+            "  link 0 0 epoch 0 own 1.1 partner 1.1 accepted 0 taken 0 acked 0 delivered 0 ended 0",
+        ],
+    ),
+    (
+        Frame {
+            settings: "minor 0 2\nminor 1 2\nwarm 0 1 0 entries 1 limit 1008\n",
+            scripts: "script 0
+send 1 0 1008*61
+script 1
+take 0 0
+",
+            schedule: ENDED,
+        },
+        &[
+            "partition 0 done boots 1",
+            "  1 1 send ok 0",
+            "  link 1 0 epoch 0 own 1.1 partner 1.1 accepted 1 taken 0 acked 0 delivered 0 ended 0",
+            "partition 1 done boots 1",
+            "  1 1 take disconnecting copy-error entries 1",
+            "  link 0 0 epoch 0 own 1.1 partner 1.1 accepted 0 taken 0 acked 0 delivered 0 ended 0",
+        ],
+    ),
+];
+
+/// Whichever of the 128 loads fails of a run that is a whole queue: none of its messages is taken.
+#[test]
+fn fails_at_each_load_of_a_whole_queue(rt: HostRuntime) -> Result<(), Fail> {
+    for (frame, has) in WHOLE_QUEUES {
+        let told = Told {
+            has,
+            lacks: &["bad-", "halted", "  over", "take ok"],
+        };
+        for load in 0..128u8 {
+            let line = failure(rt.alloc(), 1, "entries", load)?;
+            expect_report(&rt, rt.alloc(), frame, &line, told)?;
+        }
+    }
+    Ok(())
+}
+
 /// Beyond the loads of a copy nothing fails, nor does a kind of copy that isn't made.
 #[test]
 fn fails_at_no_other_load(rt: HostRuntime) -> Result<(), Fail> {
