@@ -4,19 +4,13 @@
 #[cfg(test)]
 mod causes;
 #[cfg(test)]
-mod copies;
-#[cfg(test)]
 mod kinds;
 #[cfg(test)]
 mod lawful;
 #[cfg(test)]
-mod moments;
-#[cfg(test)]
 mod node;
 #[cfg(test)]
 mod parts;
-#[cfg(test)]
-mod replays;
 #[cfg(test)]
 mod report;
 #[cfg(test)]

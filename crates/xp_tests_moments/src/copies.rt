@@ -46,7 +46,7 @@ send 1 0 03
 };
 
 /// Scenarios, kinds of copies, how many loads one has, and what the take answers where one of them fails.
-const KINDS: [(Frame, &str, u8, &str); 3] = [
+const KINDS: [(Frame, &str, u64, &str); 3] = [
     (
         LATE,
         "page",
@@ -89,7 +89,7 @@ fn fails_at_each_load(rt: HostRuntime) -> Result<(), Fail> {
             lacks: &["bad-", "halted", "  over", "take ok"],
         };
         for load in 0..loads {
-            let line = failure(rt.alloc(), 1, kind, load)?;
+            let line = failure(rt.alloc(), 1, kind, 1, load)?;
             expect_report(&rt, rt.alloc(), frame, &line, told)?;
         }
     }
@@ -170,7 +170,7 @@ fn fails_at_no_other_load(rt: HostRuntime) -> Result<(), Fail> {
         lacks: &["bad-", "halted", "  over", "copy-error"],
     };
     let others = [
-        ("page", 5u8),
+        ("page", 5u64),
         ("counters", 2),
         ("entries", 32),
         ("get", 0),
@@ -178,7 +178,7 @@ fn fails_at_no_other_load(rt: HostRuntime) -> Result<(), Fail> {
         ("args", 0),
     ];
     for (kind, load) in others {
-        let line = failure(rt.alloc(), 1, kind, load)?;
+        let line = failure(rt.alloc(), 1, kind, 1, load)?;
         expect_report(&rt, rt.alloc(), RUN, &line, told)?;
     }
     Ok(())
@@ -195,6 +195,6 @@ fn fails_at_get(rt: HostRuntime) -> Result<(), Fail> {
         ],
         lacks: &["bad-", "halted", "  over", "send ok 2"],
     };
-    let line = failure(rt.alloc(), 0, "get", 0)?;
+    let line = failure(rt.alloc(), 0, "get", 1, 0)?;
     expect_report(&rt, rt.alloc(), FULL, &line, told)
 }

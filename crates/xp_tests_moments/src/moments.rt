@@ -3,7 +3,7 @@ use crate::replays::{Frame, Told, expect_report, moment};
 use std::test::Fail;
 
 /// The turns at which a partition stops, or boots again.
-const TURNS: u8 = 64;
+const TURNS: u64 = 64;
 
 /// A channel of two entries that opens connected.
 const JOINED: &str = "warm 0 1 0 entries 2 limit 16\n";
@@ -169,7 +169,7 @@ fn boots_again_before_it_opens_a_channel(rt: HostRuntime) -> Result<(), Fail> {
         ],
         lacks: &["bad-", "halted", "1:01", "  1 3 send"],
     };
-    for turn in [0u8, 1, 6, 7, 20, 42, 43, 57, 63] {
+    for turn in [0u64, 1, 6, 7, 20, 42, 43, 57, 63] {
         let line = moment(rt.alloc(), "restart", 0, turn)?;
         expect_report(&rt, rt.alloc(), TWICE, &line, told)?;
     }
