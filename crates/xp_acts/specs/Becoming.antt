@@ -7,7 +7,7 @@ use Rattle.xp_engage.specs.Partner.{Partner as Standing}
 use Rattle.xp_partner.specs.Partner.{peer_seen, channel_of}
 use Rattle.xp_partition.specs.Partners.{Partners, partner_at, AllHaveNotes, AllHaveNotesLeft, LeavesUntouched}
 
--- the same partner by its numbers, in the same boot
+-- two standings are of one partner in one boot
 pub record IsAlike (x y : Standing) : Type 0 where
   pub own : y.own ≡ x.own
   pub partner : y.partner ≡ x.partner
@@ -18,8 +18,8 @@ pub record IsAlike (x y : Standing) : Type 0 where
   pub zeroed : y.engage.zeroed ≡ x.engage.zeroed
   pub cleared : y.engage.cleared ≡ x.engage.cleared
 
--- this is known of the partners then, and this is noted at their ends. So many notes at most are
--- paid at each end
+-- the partners become `new`: `peers` is known of them, `notes` are noted at their ends, and each
+-- end pays `spent` notes at most
 pub record Becomes (spent : ℕ) (old : Partners) (peers : List Peer)
     (notes : ℕ → ℕ → List Note) (new : Partners) : Type 0 where
   pub known : map peer_seen new.list ≡ peers

@@ -31,13 +31,13 @@ AreNoticed x =
     (q c : ℕ) (how : NoticeKind) → q < x.part.count → c < CHANNELS →
     notice_due how (end_of (state_of x) q c) ≡ None
 
--- at any end of a partner that wasn't touched
+-- no notice is due at any end of a partner that wasn't touched
 abbrev pub AreNoticedButTouched : Keeping → Type 0
 AreNoticedButTouched x =
     (q c : ℕ) (how : NoticeKind) → q < x.part.count → c < CHANNELS →
     has x.partners.touched q ≡ false → notice_due how (end_of (state_of x) q c) ≡ None
 
--- at any end of one partner
+-- no notice is due at any end of partner q
 abbrev pub IsNoticedAt : ℕ → Keeping → Type 0
 IsNoticedAt q x =
     (c : ℕ) (how : NoticeKind) → c < CHANNELS → notice_due how (channel_in x q c).end ≡ None

@@ -8,11 +8,11 @@ use Rattle.xp_partner.specs.Partner.{Partner}
 abbrev pub wanting : Bool → Partner → Partner
 wanting wanted x = record x { standing = wanted_as wanted x.standing }
 
--- the same of what is known of it
+-- what is known of a partner that is wanted, or isn't any more
 abbrev pub peer_wanted : Bool → Peer → Peer
 peer_wanted true p = wanted_again p
 peer_wanted false p = unwanted p
 
--- it isn't wanted, isn't active any more, and the own memory isn't open to it
+-- a partner has left: it isn't wanted, isn't active any more, and the own memory isn't open to it
 abbrev pub has_left : Peer → Bool
 has_left p = not p.wanted && is_gone p.engage.area p.engage.state

@@ -59,7 +59,7 @@ pub fn named_end(command: &Command) -> Option<NamedEnd>
     }
 }
 
-// That of a channel.
+// The end for a partner and a channel.
 fn at(partner: PartId, channel: Channel) -> Option<NamedEnd>
     ensures { result ≡ Some (record { partner = partner; channel = channel }) }
 {
@@ -101,7 +101,7 @@ pub fn answer(partners: &mut Partners, end: NamedEnd, verb: Verb) -> Option<LogA
     }
 }
 
-// Gives one that is due.
+// Gives the answer of a command at an end, which is due.
 fn give(partners: &mut Partners, end: NamedEnd, verb: Verb) -> Option<LogAnswer>
     requires partner { end.partner < length partners.old.list }
     requires channel { end.channel < CHANNELS }

@@ -40,7 +40,7 @@ pub fn notice(keeping: &mut Keeping)
     }
 }
 
-// Gives those at each partner.
+// Gives the notices that are due at each partner.
 #[tactic(auto, using(crate::proofs::Given::noticing))]
 fn notice_all(keeping: &mut Keeping)
     requires can { CanNotice keeping.old }
@@ -53,7 +53,7 @@ fn notice_all(keeping: &mut Keeping)
     }
 }
 
-// Gives those at one, if it was touched.
+// Gives the notices that are due at one partner, if it was touched.
 #[tactic(auto, using(crate::proofs::Given::noticing))]
 fn notice_at(keeping: &mut Keeping, number: PartId)
     requires can { CanNotice keeping.old }
@@ -68,7 +68,7 @@ fn notice_at(keeping: &mut Keeping, number: PartId)
     }
 }
 
-// Gives those at all ends of a partner.
+// Gives the notices that are due at all ends of a partner.
 #[tactic(auto, using(crate::proofs::Given::noticing))]
 fn notice_partner(keeping: &mut Keeping, number: PartId)
     requires can { CanNoticeAt number keeping.old }
@@ -80,7 +80,7 @@ fn notice_partner(keeping: &mut Keeping, number: PartId)
     }
 }
 
-// Gives those at one end.
+// Gives the notices that are due at one end.
 #[tactic(auto, using(crate::proofs::Given::noticing))]
 fn notice_end(keeping: &mut Keeping, number: PartId, channel: Channel)
     requires can { CanNoticeAt number keeping.old }
@@ -93,7 +93,7 @@ fn notice_end(keeping: &mut Keeping, number: PartId, channel: Channel)
     end_all(keeping, number, channel);
 }
 
-// Gives those of deliveries.
+// Gives the notices of deliveries that are due at one end.
 #[tactic(auto, using(crate::proofs::Given::noticing))]
 fn deliver_all(keeping: &mut Keeping, number: PartId, channel: Channel)
     requires can { CanNoticeAt number keeping.old }
@@ -108,7 +108,7 @@ fn deliver_all(keeping: &mut Keeping, number: PartId, channel: Channel)
     }
 }
 
-// Gives those of ends of connections.
+// Gives the notices of ends of connections that are due at one end.
 #[tactic(auto, using(crate::proofs::Given::noticing))]
 fn end_all(keeping: &mut Keeping, number: PartId, channel: Channel)
     requires can { CanNoticeAt number keeping.old }
@@ -123,7 +123,7 @@ fn end_all(keeping: &mut Keeping, number: PartId, channel: Channel)
     }
 }
 
-// Gives that of the lowest number whose delivery is known, where there is one.
+// Gives the notice of the lowest number whose delivery is known, where there is one.
 #[tactic(auto, using(crate::proofs::Giving::giving))]
 fn deliver(keeping: &mut Keeping, number: PartId, channel: Channel) -> Option<u64>
     requires can { CanNoticeAt number keeping.old }
@@ -140,7 +140,7 @@ fn deliver(keeping: &mut Keeping, number: PartId, channel: Channel) -> Option<u6
     partner.deliver(channel)
 }
 
-// Gives that of the lowest number whose connection ended, where there is one.
+// Gives the notice of the lowest number whose connection ended, where there is one.
 #[tactic(auto, using(crate::proofs::Giving::giving))]
 fn end(keeping: &mut Keeping, number: PartId, channel: Channel) -> Option<u64>
     requires can { CanNoticeAt number keeping.old }

@@ -29,7 +29,7 @@ pub fn begin(partners: &mut Partners, command: &Command)
     }
 }
 
-// A partner is wanted, or isn't any more, where there is one of this number.
+// The partner of a number is wanted, or isn't any more, where there is one.
 fn want(partners: &mut Partners, number: PartId, wanted: bool)
     requires { length partners.old.list ≤ PARTS }
     ensures { Becomes 0 partners.old
@@ -42,7 +42,7 @@ fn want(partners: &mut Partners, number: PartId, wanted: bool)
     }
 }
 
-// The same of one that there is.
+// One of the partners is wanted, or isn't any more.
 fn want_known(partners: &mut Partners, number: PartId, wanted: bool)
     requires { number < length partners.old.list }
     ensures list { partners.new.list ≡

@@ -1,4 +1,5 @@
--- Histories: the turns of all partitions and what is poked from outside, in their order, and which of them are legal.
+-- Histories: the turns of all partitions and what is poked from outside, in their order, and
+-- which of them are legal.
 use Rattle.std.specs.Prelude.{◌≡◌, ℕ, List, [], ◌∷◌, Option, Some, None, if◌then◌else◌, ◌==◌}
 use Rattle.xp_base.specs.declared.step.Op.{Op}
 use Rattle.xp_base.specs.declared.step.OpKind.TheVariants.{Load}
@@ -8,13 +9,15 @@ use Rattle.xp_base.specs.declared.step.Step.{Step}
 use Rattle.xp_base.specs.declared.step.CopyMark.{CopyMark}
 use Rattle.xp_base.specs.Memory.{Memory, word_at, put_at, answer_of, memory_after}
 
--- what a notice says of a message: that the partner has acknowledged it, or that its connection ended before
+-- what a notice says of a message: that the partner has acknowledged it, or that its
+-- connection ended before
 pub data NoticeKind : Type 0 where
   Delivered : NoticeKind
   Ended : NoticeKind
 
--- what a partition does beside its step: the next command of its script is begun, the one in progress is answered,
--- or the end for a partner and a channel gives the notice that is due: of which message, and what it says
+-- what a partition does beside its step: the next command of its script is begun, the one in
+-- progress is answered, or the end for a partner and a channel gives the notice that is due: of
+-- which message, and what it says
 pub data Act : Type 0 where
   Begun : Act
   Answered : Act

@@ -22,7 +22,7 @@ is_answerable Connected x = x.waiting.connected && is_some (due_by Connected x.e
 is_answerable Closed x = x.waiting.closed && is_some (due_by Closed x.end)
 is_answerable verb x = is_some (due_by verb x.end)
 
--- in the order of the commands
+-- the first command in the order of the list whose answer is due
 abbrev pub first_answerable : List Verb → Channel → Option Verb
 first_answerable [] x = None
 first_answerable (verb ∷ more) x =

@@ -17,7 +17,7 @@ pub enum LinkCommand<'a> {
         entries: u8,
         limit: u16,
     },
-    /// Takes the registration back: a channel that is open closes.
+    /// Takes the registration back: a channel whose open request was sent closes.
     Unregister,
     /// Waits until the channel is connected.
     Connected,

@@ -59,7 +59,7 @@ pub struct Decided {
 }
 
 impl Decided {
-    /// No answer.
+    /// No command has an answer.
     pub fn nothing() -> Decided
         ensures { result ≡ record {
           send = None;
@@ -85,14 +85,14 @@ impl Decided {
 /// Which waits of the caller of `command` are in progress.
 #[derive(Clone, Copy)]
 pub struct Waiting {
-    /// For a connection.
+    /// Whether a wait for a connection is in progress.
     pub connected: bool,
-    /// For the end of one.
+    /// Whether a wait for the end of a connection is in progress.
     pub closed: bool,
 }
 
 impl Waiting {
-    /// None.
+    /// No wait is in progress.
     pub fn none() -> Waiting
         ensures { result ≡ no_waiting }
     {
@@ -246,8 +246,8 @@ impl ChannelEnd {
     }
 
     /// Makes room for all that the calls of one turn append: every step of the turn may be made
-    /// then, also one that opens the channel. After want of memory the end is as before, but for its
-    /// room, of which none is lost.
+    /// then, also one that opens the channel. After want of memory the end is as before, but for
+    /// its room, of which none is lost.
     pub fn reserve(&mut self) -> Result<(), AllocError>
         ensures ok { OnOk result (HasTurnRoom self.new) }
         ensures room { OnOk result (HasRoom self.new) }
@@ -441,7 +441,7 @@ impl ChannelEnd {
         self.close(reason);
     }
 
-    // The same of an epoch that is begun.
+    // The channel closes for a reason, unless it has one, in an epoch whose record is begun.
     #[tactic(auto, using(crate::proofs::Silent::with_notes_append))]
     fn close_begun(&mut self, reason: Reason)
         requires { is_begun self.old.end ≡ true }

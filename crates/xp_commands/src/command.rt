@@ -22,7 +22,7 @@ pub struct Owner {
     /// How many partitions there are.
     pub count: Count,
     pub part: PartId,
-    /// Its minor version, 1 or 2.
+    /// The minor version of the partition, 1 or 2.
     pub minor: u8,
     /// Whether the bytes of payloads are kept. Where they aren't, commands have none.
     pub keeps: bool,

@@ -13,7 +13,7 @@ abbrev pub first_ends : List Page → ℕ
 first_ends [] = LINES
 first_ends (x ∷ more) = x.ends
 
--- by the pages, the newest first
+-- the view of records by their pages, the newest first
 abbrev pub view_by : Inside → List Page → Pages
 view_by x pages = record {
   partner = x.partner;

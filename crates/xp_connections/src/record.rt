@@ -24,7 +24,7 @@ pub struct Bodies {
 }
 
 impl Bodies {
-    /// How many there are.
+    /// How many bodies there are.
     pub fn len(&self) -> u64
         ensures { result ≡ length self.now.list.items }
     {
@@ -47,7 +47,7 @@ pub struct Numbers {
 }
 
 impl Numbers {
-    /// How many there are.
+    /// How many numbers there are.
     pub fn len(&self) -> u64
         ensures { result ≡ length self.now.list.items }
     {
@@ -75,7 +75,7 @@ pub struct Record {
     pub own: Session,
     /// The session of the partner's end.
     pub theirs: Session,
-    /// Whether it was ever connected.
+    /// Whether the connection was ever connected.
     pub connected: bool,
     /// The messages that this end's sends were told were accepted.
     pub accepted: Bodies,
@@ -87,11 +87,11 @@ pub struct Record {
     pub acked: u64,
     /// The numbers of the messages whose senders asked for a notice.
     pub asked: Numbers,
-    /// Those of them whose delivery was told.
+    /// The numbers of the messages whose delivery was told.
     pub delivered: Numbers,
-    /// Those of them that were still undelivered when the connection ended.
+    /// The numbers of the messages that were still undelivered when the connection ended.
     pub ended: Numbers,
-    /// Why it ended, once it has.
+    /// Why the connection ended, once it has.
     pub over: Option<Reason>,
     calls: u32,
     ends: u32,
@@ -191,7 +191,7 @@ impl Record {
         self.connected = false;
     }
 
-    /// It is connected.
+    /// The connection is connected.
     pub fn note_connected(&mut self)
         ensures { self.new ≡ record self.old { said = has_connected self.old.said } }
     {

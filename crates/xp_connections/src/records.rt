@@ -22,7 +22,7 @@ pub struct Records {
     alloc: Global,
     partner: PartId,
     channel: Channel,
-    /// In the order in which they were begun.
+    /// The records in the order in which their connections were begun.
     list: Vec<Record>,
     /// Why connections ended, the first one first.
     closed: Vec<Reason>,
@@ -150,7 +150,8 @@ impl Records {
         requires { 0 < self.old.next }
         ensures { let said = has_begun epoch own theirs false
             (blank_record self.old.partner self.old.channel) ∷ self.old.said in
-            self.new ≡ record self.old { said = said; ongoing = true; calls = 0; ends = 0; next = self.old.next - 1 } }
+            self.new ≡ record self.old
+            { said = said; ongoing = true; calls = 0; ends = 0; next = self.old.next - 1 } }
     {
         let mut record = Record::blank(self.alloc, self.partner, self.channel);
         record.begin(epoch, own, theirs);
@@ -276,7 +277,8 @@ impl Records {
     pub fn note_delivered(&mut self, number: u64)
         requires { 0 < self.old.calls }
         ensures records { self.new ≡
-            record self.old { said = in_newest (Told number) self.old.said; calls = self.new.calls } }
+            record self.old
+            { said = in_newest (Told number) self.old.said; calls = self.new.calls } }
         ensures calls { self.old.calls ≤ self.new.calls + 1 }
     {
         if self.list.is_empty() {

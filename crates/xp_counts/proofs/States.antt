@@ -27,7 +27,7 @@ use Rattle.xp_protocol.specs.Acts.{Aim, EndName, named_end, upcoming, current, e
 use Rattle.xp_protocol.specs.Runs.{after_ruled, after_step, turn_counted, restart_comes, stop_comes, moment_by, moment, is_over, start, acted, after_turn, state_after}
 use Rattle.xp_protocol.proofs.Slots.{at_each, at_peer, at_slot}
 use Rattle.xp_protocol.proofs.Frames.{wanted_at, idle_at}
-use Rattle.xp_counts.specs.declared.laws.TheConstants.{MOST_TURNS, MOST_CALLS}
+use Rattle.xp_counts.specs.declared.laws.TheConstants.{COUNTED_TURNS, MOST_CALLS}
 use Rattle.xp_counts.specs.Counted.{IsEndCounted, IsPeerCounted, AreCopiesCounted, IsClockCounted, IsScriptCounted, AreCounted, calls_in, raised_by, HasCalls, IsBounded}
 use Rattle.xp_counts.proofs.Ends.{idle_counted, warm_counted, linked, answers, notices, begins}
 use Rattle.xp_counts.proofs.Peers.{more_peer, cold_counted, peered, numbered, failed, reasoned, freed, told, set_counted, booted}
@@ -312,7 +312,7 @@ history_bounded s turns most few =
     let e : (state_after s (start s) turns).clock.turns ≡ length turns = (let a = turns_from s (start s) turns in let b = start_turns s in omega (arith, a, b)) in
     subst (λ (k : ℕ). AreCounted ((most + 2) * k + 2) (state_after s (start s) turns)) e (bounded_from s (start s) turns most few (start_bounded s most))
 
-pub counts_low : (st : State) (most : ℕ) → most ≤ MOST_CALLS → st.clock.turns ≤ MOST_TURNS → IsBounded most st → AreCounted (2 ^ 63) st
+pub counts_low : (st : State) (most : ℕ) → most ≤ MOST_CALLS → st.clock.turns ≤ COUNTED_TURNS → IsBounded most st → AreCounted (2 ^ 63) st
 counts_low st most a b h = more_counted ((most + 2) * st.clock.turns + 2) (2 ^ 63) st (low most st.clock.turns a b) h where
-  low : (m t : ℕ) → m ≤ MOST_CALLS → t ≤ MOST_TURNS → (m + 2) * t + 2 ≤ 2 ^ 63
-  low m t a b = let e : m + 2 ≤ MOST_CALLS + 2 = omega (arith, a) in let f : (m + 2) * t ≤ (MOST_CALLS + 2) * MOST_TURNS = mul-le (m + 2) t (MOST_CALLS + 2) MOST_TURNS e b in omega (arith, f)
+  low : (m t : ℕ) → m ≤ MOST_CALLS → t ≤ COUNTED_TURNS → (m + 2) * t + 2 ≤ 2 ^ 63
+  low m t a b = let e : m + 2 ≤ MOST_CALLS + 2 = omega (arith, a) in let f : (m + 2) * t ≤ (MOST_CALLS + 2) * COUNTED_TURNS = mul-le (m + 2) t (MOST_CALLS + 2) COUNTED_TURNS e b in omega (arith, f)

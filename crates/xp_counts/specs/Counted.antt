@@ -46,14 +46,14 @@ pub record AreEndCounts (n : ℕ) (x : EndCounts) : Type 0 where
 abbrev pub IsEndCounted : ℕ → End → Type 0
 IsEndCounted n e = AreEndCounts n (counts_of e)
 
--- the same of a partner: how many times the own memory was opened for it in this boot, the turn in
--- which the own bit was cleared last, and the ends
+-- each count of a partner is n at most: how many times the own memory was opened for it in this
+-- boot, the turn in which the own bit was cleared last, and the counts of the ends
 pub record IsPeerCounted (n : ℕ) (p : Peer) : Type 0 where
   pub count : p.engage.count ≤ n
   pub cleared : (turn : ℕ) → p.engage.cleared_at ≡ Some turn → turn ≤ n
   pub ends : (c : ℕ) → IsEndCounted n (link_at p.links c)
 
--- the same of copies, of what counts over all boots, and of the script of a boot
+-- the copies of each kind that were begun are n at most
 pub record AreCopiesCounted (n : ℕ) (x : Copies) : Type 0 where
   pub pages : x.pages ≤ n
   pub records : x.records ≤ n
@@ -62,12 +62,14 @@ pub record AreCopiesCounted (n : ℕ) (x : Copies) : Type 0 where
   pub get : x.get ≤ n
   pub entries : x.entries ≤ n
 
+-- what counts over all boots is n at most
 pub record IsClockCounted (n : ℕ) (x : Clock) : Type 0 where
   pub boots : x.boots ≤ n
   pub turns : x.turns ≤ n
   pub puts : x.puts ≤ n
   pub copies : AreCopiesCounted n x.copies
 
+-- the counts of a boot's script are n at most
 pub record IsScriptCounted (n : ℕ) (x : Script) : Type 0 where
   pub begun : x.begun ≤ n
   pub since : x.since ≤ n

@@ -16,8 +16,8 @@ ghost use Rattle.xp_protocol.specs.Runs.{start, turn_counted, moment, after_turn
 ghost use Rattle.xp_counts.specs.Counted.{AreCounted, IsBounded, calls_in, raised_by, HasCalls};
 ghost use Rattle.xp_counts.specs.Planned.{IsAsPlanned, HasFewPlans};
 
-/// How many turns a partition makes at most: 2^48.
-pub const MOST_TURNS: u64 = 281_474_976_710_656;
+/// Up to how many turns of a partition the counts are shown to fit: 2^48.
+pub const COUNTED_TURNS: u64 = 281_474_976_710_656;
 
 /// How many commands a turn begins and answers at most, where the counts are to fit.
 pub const MOST_CALLS: u64 = 16_384;
@@ -47,11 +47,11 @@ pub fn turns_bound_counts()
         → AreCounted ((most + 2) * length turns + 2) (state_after s (start s) turns) }
 {}
 
-/// Before a partition has made `MOST_TURNS` turns, no count is near the end of 64 bits: it can be
-/// raised as often again.
+/// Before a partition has made `COUNTED_TURNS` turns, no count is above 2^63: each
+/// can be raised as often again before the end of 64 bits.
 pub fn counts_fit()
     ensures more { (a b : ℕ) → (st : State) → a ≤ b → AreCounted a st → AreCounted b st }
-    ensures fit { (st : State) → (most : ℕ) → most ≤ MOST_CALLS → st.clock.turns ≤ MOST_TURNS
+    ensures fit { (st : State) → (most : ℕ) → most ≤ MOST_CALLS → st.clock.turns ≤ COUNTED_TURNS
         → IsBounded most st → AreCounted (2 ^ 63) st }
 {}
 

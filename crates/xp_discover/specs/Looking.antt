@@ -12,6 +12,6 @@ look_answered Absent stamp = answers.Absent
 look_answered (BadVersion word) stamp = answers.BadVersion word
 look_answered (Good version) stamp = answers.Good stamp version
 
--- of the five words of a look, the last of which is the stamp
+-- the answer of a look by its five words, the last of which is the stamp
 abbrev pub look_answer : List ℕ → LookAnswer
 look_answer words = look_answered (judged words) (slice_index words 4)

@@ -107,7 +107,7 @@ pub record IsFine (bytes : List ℕ) : Type 0 where
   pub allowed : (k : ℕ) → 8 * k + 8 ≤ length bytes → word_allowed (word_in bytes) k ≡ true
   pub within : length bytes ≤ 8 * total (word_in bytes)
 
--- bytes are missing
+-- bytes without a fault end too soon, and the fault says where
 pub record IsCut (bytes : List ℕ) (fault : PageFault) : Type 0 where
   pub fine : IsFine bytes
   pub short : length bytes < 8 * total (word_in bytes)
@@ -127,7 +127,7 @@ pub record IsDump (bytes : List ℕ) (m : Memory) : Type 0 where
   pub whole : length bytes ≡ 8 * total (word_in bytes)
   pub told : AreWordsOf (word_in bytes) m
 
--- of bytes without a fault, the fault that they end too soon
+-- the fault of bytes that end too soon
 abbrev pub IsMissing : List ℕ → DumpFault → Type 0
 IsMissing bytes (Page fault) = IsCut bytes fault
 IsMissing bytes (Trailing offset) = ⊥

@@ -4,7 +4,7 @@ use Rattle.xp_base.specs.Memory.{Memory}
 use Rattle.xp_dump.specs.declared.fault.DumpFault.{DumpFault}
 use Rattle.xp_dump.specs.Grammar.{IsFine, IsFault, IsDump, IsMissing}
 
--- these bytes came and there is no fault in them, or this is the first fault
+-- how far a dump was read: bytes without a fault came, or a first fault was found
 pub data Progress : Type 0 where
   Reading : (bytes : List ℕ) → Progress
   Faulted : (fault : DumpFault) → Progress

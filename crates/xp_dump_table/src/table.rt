@@ -98,7 +98,7 @@ fn args_rows(layout: Layout, partner: u32, channel: u32) -> [Row; ARGS_WORDS as 
 }
 
 impl Part {
-    // Where the images of its open words stand; they name no partner and no channel.
+    // Where the images of the part's open words stand; they name no partner and no channel.
     fn at(&self) -> At
         ensures { result ≡ at_of self.now }
     {

@@ -1,6 +1,6 @@
 -- Which step for the partner comes next, by the plan of a partition's turns: it is left where there
--- is a reason, else the own memory for it is prepared, the own bit set, the partner answered, and its
--- record read.
+-- is a reason, else the own memory for it is prepared, the own bit set, the partner
+-- answered, and its record read.
 use Rattle.std.specs.Prelude.{ℕ, Bool, Option, Some, None}
 use Rattle.xp_base.specs.declared.step.Wanted.{Wanted}
 use Rattle.xp_protocol.specs.declared.rule.PeerRule.{PeerRule}
@@ -17,7 +17,8 @@ for_partner (Some (Peer q m)) = Some m
 for_partner (Some (Own m)) = None
 for_partner (Some (Link q c m)) = None
 
--- in this turn, where another copy of the partner's words goes on than that of its record, or not
+-- the step for the partner that comes next in a turn. `copying` says whether another copy of the
+-- partner's words goes on than that of its record
 abbrev pub partner_next : ℕ → Bool → Partner → Option PeerRule
 partner_next turn copying x =
     or_else (leave_at (alone_by copying x))

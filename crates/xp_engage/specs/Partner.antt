@@ -51,7 +51,7 @@ new_partner own partner version stamp engage window = record {
   contact = None;
 }
 
--- one in a boot that has just begun
+-- a partner in a boot that has just begun
 abbrev pub booted_partner : Partner → Partner
 booted_partner x =
     record (new_partner x.own x.partner x.version x.stamp booted_engage 0) { wait = x.wait }
@@ -64,8 +64,8 @@ warm_partner own partner version theirs window =
       contact = Some first_contact;
     }
 
--- the partner as the rules see it, with no end of a channel. Where another copy of its words goes on
--- than that of its record, a look stands for it
+-- the partner as the rules see it, with no end of a channel. Where another copy of its words goes
+-- on than that of its record, a look stands for it
 abbrev pub alone_by : Bool → Partner → Peer
 alone_by copying x = record {
   wanted = x.wanted;
@@ -115,14 +115,14 @@ mark_for x m = mark_with 0 (row_for x m).copy
 abbrev pub step_wanted : Partner → PeerRule → Wanted
 step_wanted x m = wanted_at x.own x.partner (row_for x m)
 
--- what a step makes of it, and the reason to deactivate the partner that the step gives
+-- what a step makes of the partner, and the reason to deactivate the partner that the step gives
 abbrev pub effect_on : ℕ → Partner → PeerRule → Answer → Effect Peer (ℕ → List Note)
 effect_on turn x m a = peer_answered (here turn x) (mark_for x m) (alone x) m a
 
 abbrev pub stepped : ℕ → Partner → PeerRule → Answer → Partner
 stepped turn x m a = seen_in x (effect_on turn x m a).local
 
--- of a step that has answered a word
+-- what a step that has answered a word makes of the partner
 abbrev pub made : ℕ → Partner → PeerRule → ℕ → Partner
 made turn x m w = seen_in x (peer_effect (here turn x) (alone x) m w).local
 
@@ -140,7 +140,7 @@ abbrev pub is_copy : PeerRule → Bool
 is_copy ReadRecord = true
 is_copy m = false
 
--- a word that is stored before the memory is opened is one of it; and there is a session left
+-- a word that is stored before the memory is opened is one of the memory's, and a session is left
 abbrev pub IsStorable : Partner → PeerRule → Type 0
 IsStorable x (Prepare word) = IsAreaWord word × (x.engage.count < 2 ^ 32 - 1)
 IsStorable x OpenArea = x.engage.count < 2 ^ 32 - 1
@@ -162,7 +162,8 @@ MayAnswer None a = Unit {0}
 MayAnswer (Some m) a = a ≡ Failed → is_copy m ≡ true
 
 -- a state of the partition in which this is known of the partner, in the turn that is counted next:
--- another copy of its words goes on where `copying` says so, and of its record the one that is known
+-- another copy of its words goes on where `copying` says so, and of its record the one that is
+-- known
 pub record IsStateOf (x : Partner) (turn : ℕ) (copying : Bool) (s : ScenarioPart) (st : State) :
     Type 0 where
   pub part : s.part ≡ x.own

@@ -50,8 +50,8 @@ pub struct StoredWords {
     pub echo: bool,
     /// The flag word, as 0.
     pub flags: bool,
-    /// Bit n of the record's word n: 3 to 7 say where something stands, how many channels there are,
-    /// and nothing.
+    /// Bit n of the record's word n: 3 to 7 say where something stands, how many channels
+    /// there are, and nothing.
     pub places: u8,
     /// Bit `ARGS_WORDS * c + f` of argument word f of channel c, as 0.
     pub args: u16,
@@ -62,17 +62,17 @@ pub struct StoredWords {
 /// The own memory for a partner, and what was stored in it.
 #[derive(Clone, Copy)]
 pub struct OwnArea {
-    /// Whether it is free, open to the partner, or left.
+    /// Whether the memory is as a former boot left it, free, open to the partner, or being left.
     pub state: AreaState,
-    /// How many times it was opened in this boot.
+    /// How many times the memory was opened in this boot.
     pub count: u32,
-    /// What was stored in it since it is free.
+    /// What was stored in the memory since it is free.
     pub stored: StoredWords,
-    /// Whether the partner's bit in the own deactivation word was cleared since it is free.
+    /// Whether the partner's bit in the own deactivation word was cleared since the memory is free.
     pub deactivation_cleared: bool,
     /// Whether the second magic was stored.
     pub second: bool,
-    /// Whether the partner was told that it was closed.
+    /// Whether the partner was told that the memory was closed.
     pub told: bool,
     /// Whether the magic was stored as 0 in this boot.
     pub zeroed: bool,
@@ -81,13 +81,13 @@ pub struct OwnArea {
 /// The own bit in the partner's engagement word.
 #[derive(Clone, Copy)]
 pub struct OwnBit {
-    /// Whether it stands there.
+    /// Whether the bit stands there.
     pub is_in: bool,
-    /// Whether it goes again, since the partner's memory isn't open.
+    /// Whether the bit is to be cleared again, since the partner's memory isn't open.
     pub back_off: bool,
-    /// In which turn of this boot it was cleared last.
+    /// In which turn of this boot the bit was cleared last.
     pub cleared_at: Option<u64>,
-    /// Whether it was cleared in this boot, where a former one may have left it.
+    /// Whether the bit was cleared in this boot, where a former boot may have left it.
     pub cleared: bool,
 }
 
@@ -96,7 +96,7 @@ pub struct OwnBit {
 pub struct RecordCopy {
     /// How many words were loaded.
     pub done: u8,
-    /// Whether it was begun after the own echo was stored.
+    /// Whether the copy was begun after the own echo was stored.
     pub after_echo: bool,
     /// The magic that was loaded.
     pub magic: u64,
@@ -134,7 +134,7 @@ impl StoredWords {
         }
     }
 
-    // The first of those of which there is a bit for each.
+    // The first word that wasn't stored, of those that have a bit each.
     fn missing_by_bits(&self) -> Option<AreaWord>
         ensures value { result ≡ words_missing_in self.now }
         ensures word { IfSome result (λ word. IsAreaWord word) }
@@ -149,7 +149,7 @@ impl StoredWords {
         Some(AreaWord::CounterWord(number / COUNTER_WORDS as u8, number % COUNTER_WORDS as u8))
     }
 
-    /// Whether each of them was stored.
+    /// Whether each word was stored that is stored before the memory is opened.
     pub fn is_whole(&self) -> bool
         ensures { result ≡ (self.now.session && (self.now.echo && (self.now.flags
             && (nat_eq self.now.counters 255

@@ -140,9 +140,9 @@ impl PartnerEnd {
         }
     }
 
-    /// A partner in a boot of this stamp: the own memory for it is as a former boot left it. `version`
-    /// is the word of the own version, and `window` the scenario's: no engagement bit is set within
-    /// two windows after it was cleared.
+    /// A partner in a boot of this stamp: the own memory for it is as a former boot left it.
+    /// `version` is the word of the own version, and `window` the scenario's: no engagement bit is
+    /// set within two windows after it was cleared.
     pub fn new(own: PartId, partner: PartId, version: u64, stamp: u32, window: u64) -> PartnerEnd
         requires { 2 * window < 2 ^ 64 }
         ensures { result ≡ new_partner own partner version stamp booted_engage window }
@@ -401,7 +401,7 @@ impl PartnerEnd {
     }
 }
 
-// Whether a look showed a page of this layout.
+// Whether the last look showed a good page.
 fn is_good(look: Look) -> bool
     ensures { result ≡ is_good look }
 {
@@ -549,7 +549,7 @@ impl PartnerEnd {
     }
 }
 
-// Which word of a record says this.
+// Which word of a record says a field.
 fn field_number(field: RecordField) -> u32
     ensures value { result ≡ field_number field }
     ensures range { result < RECORD_WORDS }
@@ -576,7 +576,7 @@ fn field_word(q: PartId, field: RecordField) -> u64
     }
 }
 
-// What a step's answer makes of it.
+// What a step's answer makes of the partner's standing.
 impl PartnerEnd {
     /// The step of a rule has answered in this turn: what is known of the partner changes, and the
     /// answer may be a reason to deactivate the partner, which isn't kept yet. A failed load is a
@@ -777,7 +777,8 @@ impl PartnerEnd {
         }
     }
 
-    // Its magic.
+    // Takes the magic of the partner's record, and gives the reason to deactivate the
+    // partner, where there is one.
     fn read_magic(&mut self, word: u64) -> Option<Reason>
         ensures partner { self.new ≡ seen_in self.old (magic_read (alone self.old) word).local }
         ensures reason { result ≡ (magic_read (alone self.old) word).reason }
@@ -852,7 +853,7 @@ fn is_wrong(own: PartId, number: u8, word: u64) -> bool
     }
 }
 
-// What a node tells of the partner.
+// What the partition tells of the partner.
 impl PartnerEnd {
     /// Whether the partner is wanted: one that isn't is deactivated (`Unloading`).
     pub fn want(&mut self, wanted: bool)
@@ -867,9 +868,9 @@ impl PartnerEnd {
         }
     }
 
-    /// A look at the partner's page was whole. The version that a good one showed counts from now on.
-    /// It is a reason where the partner's session was stored, and the page is of another boot or of
-    /// a version that isn't known.
+    /// A look at the partner's page was whole. The version that a good one showed counts from now
+    /// on. It is a reason where the partner's session was stored, and the page is of another boot
+    /// or of a version that isn't known.
     pub fn looked(&mut self, answer: LookAnswer)
         ensures { self.new ≡ looked_at answer self.old }
     {
@@ -1006,7 +1007,7 @@ impl PartnerEnd {
     }
 }
 
-// What it tells.
+// What the standing of the partner tells.
 impl PartnerEnd {
     /// Whether all holds that opening the own memory asks, but, it may be, the stored mask bit.
     pub fn prepared(&self) -> bool
@@ -1103,8 +1104,8 @@ impl PartnerEnd {
         self.both_new
     }
 
-    /// A reason to deactivate the partner that one of their channels' ends gave. An end that refuses
-    /// a flag doesn't know the words in which it came: they are put in here.
+    /// A reason to deactivate the partner that one of their channels' ends gave. An end that
+    /// refuses a flag doesn't know the words in which it came: they are put in here.
     pub fn end_reason(&self, reason: Option<Reason>) -> Option<Reason>
         ensures { result ≡ end_reason self.now.flags_seen reason }
     {

@@ -192,7 +192,7 @@ word w f = Choice w f (Never causes.Word)
 abbrev pub any : Slot
 any = Number 0 18446744073709551615
 
--- the same but 0
+-- any number of 64 bits but 0
 abbrev pub positive : Slot
 positive = Number 1 18446744073709551615
 

@@ -33,7 +33,7 @@ opening next previous =
     else Register next 0 ENTRIES LINE_BYTES ∷ Register previous 0 ENTRIES LINE_BYTES
     ∷ Connected next 0 ∷ Connected previous 0 ∷ []
 
--- it sends message k, and takes and releases one
+-- a partition sends message k, and takes and releases one
 abbrev pub exchange : ℕ → ℕ → ℕ → ℕ → ℕ → List Command
 exchange n p next previous k =
     Send next 0 (payload_of n p k) true true ∷ Take previous 0 true ∷ Release previous 0 k ∷ []

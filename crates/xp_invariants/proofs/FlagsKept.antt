@@ -1,4 +1,4 @@
--- The queue of flags between two ends, in the words of the law.
+-- Where each control flag between two ends is, in the words of the law.
 use Rattle.std.proofs.Common.{◌≡◌, ℕ, ◌+◌, ◌<◌, ◌≤◌, Bool, true, false, ◌||◌, List, refl, ap, sym, ◌∙◌, subst, arith, Option, Some, None, inl, inr, ◌⊎◌}
 use Rattle.std.specs.Prelude.{is_some}
 use Rattle.std.proofs.lemmas.Bool.{eqb-true}
@@ -31,7 +31,7 @@ use Rattle.xp_promises.proofs.Headline.{Holds, Joined, turned, apart, bound}
 use Rattle.xp_promises.proofs.Lines.{Area, area_at, five, control, terms, View, fresh, Room, FineAt}
 use Rattle.xp_promises.proofs.Reuses.{whole_both}
 use Rattle.xp_invariants.specs.Between.{word_after}
-use Rattle.xp_invariants.specs.Flags.{flags_set, InContact, IsControl, IsPlaced, HasArguments, FlagQueue}
+use Rattle.xp_invariants.specs.Flags.{flags_set, InContact, IsControl, IsPlaced, HasArguments, FlagPlaces}
 use Rattle.xp_invariants.proofs.Standing.{reached_by, known_at}
 
 placed_some : (w t g s : Bool) → Slot w t g s → s ≡ (w || (t || g))
@@ -242,7 +242,7 @@ module _ (s : Scenario) (law : IsLawful s) (h : List Event) (m : Memory) (given 
         by u v k (inr (inl d)) = absurd (omega (arith, d))
         by u v k (inr (inr d)) = (let z = (k.to_b.ahead (sym d)).closing.2 in absurd (cc))
 
-pub flags_kept : (s : Scenario) → IsLawful s → (h : List Event) (m : Memory) → ReachedWords s h m → FlagQueue s h
+pub flags_kept : (s : Scenario) → IsLawful s → (h : List Event) (m : Memory) → ReachedWords s h m → FlagPlaces s h
 flags_kept s law h m r = record {
   near = λ p q c l. (let P : State → State → Type 0 = λ a b. InContact (end_of a q c) → InContact (end_of b p c) → ((end_of a q c).epoch ≤ (end_of b p c).epoch + 1) × ((end_of b p c).epoch ≤ (end_of a q c).epoch + 1) in
       both p q P (λ here there. (let z = sound s law h m r p q c l here there in (z.to_b.near, z.to_a.near))));

@@ -34,7 +34,9 @@ abbrev pub HasBooted : Scenario → List Event → ℕ → Type 0
 HasBooted s h p = (state_at s h p).life ≡ Up
 
 -- the step of turn t, which p makes next after a history, follows rule r
-pub record IsStepBy (s : Scenario) (before : List Event) (p : ℕ) (t : Turn) (r : Rule) : Type 0 where
+pub record IsStepBy (s : Scenario) (before : List Event) (p : ℕ) (t : Turn)
+    (r : Rule) : Type 0 where
   pub step : Marked
   pub made : t.made ≡ Some step
-  pub ruled : rule_of (part_of s p) (known_acted s before p t.before) step.step.op step.mark ≡ Some r
+  pub ruled : rule_of (part_of s p) (known_acted s before p t.before) step.step.op step.mark
+      ≡ Some r

@@ -50,7 +50,7 @@ pub record HasArguments (e : End) (request reply code place : ℕ) : Type 0 wher
   pub coded : e.shake.sent.close_request ≡ true → code ≡ code_of e.shake.reason
 
 -- of p's end of a line, which sends, and q's, which gets
-pub record FlagQueue (s : Scenario) (h : List Event) : Type 0 where
+pub record FlagPlaces (s : Scenario) (h : List Event) : Type 0 where
   -- two ends in contact are in one epoch, or in two that follow each other
   pub near : (p q c : ℕ) → IsLine s p q c → InContact (end_at s h p q c) →
       InContact (end_at s h q p c) →
@@ -62,8 +62,8 @@ pub record FlagQueue (s : Scenario) (h : List Event) : Type 0 where
       IsControl k →
       IsPlaced (has k (end_at s h p q c).shake.sent) (has k (flags_set s h p q c))
       (has k (end_at s h q p c).shake.taken) (has k (end_at s h q p c).shake.got)
-  -- where the sender is in the next epoch: of the epoch before, the close reply alone isn't handled,
-  -- and it wasn't sent in the next one; the other flags are those of the next one
+  -- where the sender is in the next epoch: of the epoch before, the close reply alone isn't
+  -- handled, and it wasn't sent in the next one; the other flags are those of the next one
   pub last : (p q c : ℕ) → IsLine s p q c → InContact (end_at s h p q c) →
       InContact (end_at s h q p c) → (end_at s h p q c).epoch ≡ (end_at s h q p c).epoch + 1 →
       IsPlaced true (has CloseReply (flags_set s h p q c))
@@ -90,8 +90,8 @@ pub record FlagQueue (s : Scenario) (h : List Event) : Type 0 where
       (end_at s h p q c).shake.meet ≡ Some m →
       HasArguments (end_at s h p q c) (word_after s h p (Args q c 0))
       (word_after s h p (Args q c 1)) (word_after s h p (Args q c 2)) (index_of (Entry q c 0))
-  -- and an argument that was loaded is of a flag that is taken and not handled, and is the word of
-  -- the partner, whatever has become of the partner's end
+  -- an argument that was loaded is of a flag that is taken and not handled, and is the word of the
+  -- partner, whatever has become of the partner's end
   pub request_loaded : (p q c v : ℕ) → IsLine s p q c → InContact (end_at s h q p c) →
       (end_at s h q p c).shake.request ≡ Some v →
       ((end_at s h q p c).shake.taken.open_request ≡ true) × (v ≡ word_after s h p (Args q c 0))

@@ -45,7 +45,7 @@ pub record GuestAndHost (s : Scenario) (h : List Event) : Type 0 where
   pub old_bit : (p q : ℕ) (before after : List Event) → ArePartners s p q → h ≡ before ++ after →
       (state_at s before p).clock.boots ≡ (state_at s h p).clock.boots → (HasBooted s h p → ⊥) →
       (engage_at s h p q).cleared ≡ false → bit_after s h p q ≡ bit_after s before p q
-  -- and clear from then on
+  -- once p has cleared its bit in a boot, the bit is clear until p has booted
   pub cleared_bit : (p q : ℕ) → ArePartners s p q → (HasBooted s h p → ⊥) →
       (engage_at s h p q).cleared ≡ true → bit_after s h p q ≡ 0
   -- p has entered only while its own area for q is open or being left

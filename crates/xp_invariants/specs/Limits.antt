@@ -29,7 +29,7 @@ pub record HaveOneLimit (e g : End) : Type 0 where
   pub limit : e.sides.send.limit ≡ lesser (size_sent e).limit (size_sent g).limit
   pub equal : e.shake.both_new ≡ false → (size_sent e).limit ≡ (size_sent g).limit
 
--- of two ends in contact
+-- which sizes two ends in contact know, and when they have one limit
 pub record Limits (s : Scenario) (h : List Event) : Type 0 where
   -- in one epoch, the size that came with an open request which was handled is the one that the
   -- sender asks for
@@ -47,11 +47,11 @@ pub record Limits (s : Scenario) (h : List Event) : Type 0 where
       (end_at s h p q c).shake.sent.open_complete ≡ true →
       (end_at s h q p c).shake.sent.open_complete ≡ true →
       HaveOneLimit (end_at s h p q c) (end_at s h q p c)
-  -- and so have two of which one may copy the other's words
+  -- two ends of which one may copy the other's words have one limit
   pub one_limit : (p q c : ℕ) → IsLine s p q c → may_copy (end_at s h p q c) ≡ true →
       InContact (end_at s h q p c) → HaveOneLimit (end_at s h p q c) (end_at s h q p c)
-  -- each partition's version word is the scenario's at any time, and an end in contact judges by its
-  -- own and its partner's: so both judge alike
+  -- each partition's version word is the scenario's at any time, and an end in contact judges by
+  -- its own and its partner's: so both judge alike
   pub versions : VersionsStand s (memory_by (opening s) h)
   pub judged : (p q c : ℕ) → IsLine s p q c → InContact (end_at s h p q c) →
       (end_at s h p q c).shake.both_new

@@ -32,7 +32,8 @@ message bodies k = slice_index_or bodies k []
 
 -- what a receiver has taken, pulled and seen, by its record r of the connection and by what its
 -- partner has put and had accepted
-pub record IsReceived (x : Pulling) (r : Recorded) (put : ℕ) (accepted : List (List ℕ)) : Type 0 where
+pub record IsReceived (x : Pulling) (r : Recorded) (put : ℕ)
+    (accepted : List (List ℕ)) : Type 0 where
   pub acked : r.acked ≤ length r.taken
   pub taken : length r.taken ≤ x.pulled
   pub pulled : x.pulled ≤ x.pulled_put
@@ -42,7 +43,8 @@ pub record IsReceived (x : Pulling) (r : Recorded) (put : ℕ) (accepted : List 
   pub count : length (r.taken ++ x.cache) ≡ x.pulled
 
 -- the slots of the messages from `acked` on hold them
-pub record HoldMessages (x : Pulling) (acked : ℕ) (accepted : List (List ℕ)) (entry : ℕ → ℕ) : Type 0 where
+pub record HoldMessages (x : Pulling) (acked : ℕ) (accepted : List (List ℕ))
+    (entry : ℕ → ℕ) : Type 0 where
   pub at : (k f : ℕ) → acked ≤ k → k < length accepted → f < entry_words x.limit →
       entry (entry_words x.limit * (k % x.entries) + f) ≡ message_word k (message accepted k) f
 
@@ -68,13 +70,14 @@ IsCounterRule q c f (Link k d ZeroPut) = (k ≡ q) × (d ≡ c) × (1 ≡ f)
 IsCounterRule q c f (Peer k (Prepare (CounterWord d g))) = (k ≡ q) × (d ≡ c) × (g ≡ f)
 IsCounterRule q c f r = ⊥
 
-pub record StoresCounter (s : Scenario) (before : List Event) (a p q c f : ℕ) (t : Turn) : Type 0 where
+pub record StoresCounter (s : Scenario) (before : List Event) (a p q c f : ℕ)
+    (t : Turn) : Type 0 where
   pub own : a ≡ p
   pub rule : Rule
   pub counter : IsCounterRule q c f rule
   pub step : IsStepBy s before p t rule
 
--- of p's end of a line
+-- how p's end of a line, with its record and its counter words, agrees with its partner's
 pub record Lines (s : Scenario) (h : List Event) : Type 0 where
   -- an end in contact that is begun has a record of its connection, and that is its newest one
   pub recorded : (p q c : ℕ) (m : Contact) → IsLine s p q c →
@@ -85,8 +88,8 @@ pub record Lines (s : Scenario) (h : List Event) : Type 0 where
         own = m.own;
         theirs = m.theirs;
       })
-  -- where p may copy the words of q: what p has acknowledged, taken, pulled and seen, and what q has
-  -- put and had accepted, follow each other
+  -- where p may copy the words of q: what p has acknowledged, taken, pulled and seen, and what q
+  -- has put and had accepted, follow each other
   pub received : (p q c : ℕ) → IsLine s p q c → may_copy (end_at s h p q c) ≡ true →
       (r : Recorded) → slice_get (records_of s h p q c) 0 ≡ Some r →
       IsReceived (end_at s h p q c).sides.pull r (put_word s h q p c)
@@ -102,8 +105,9 @@ pub record Lines (s : Scenario) (h : List Event) : Type 0 where
   pub copied : (p q c : ℕ) → IsLine s p q c → may_copy (end_at s h p q c) ≡ true →
       (r : Recorded) → slice_get (records_of s h p q c) 0 ≡ Some r →
       AreCopied (end_at s h p q c).sides.pull (accepted_of (other s h p q c r))
-  -- where p's end has opened its epoch: it has put what it was told was accepted, each get that it
-  -- knows its partner has acknowledged, and it has put no more than that and its entries
+  -- where p's end has opened its epoch: it has put what it was told was accepted, the get that it
+  -- knows is at most what its partner has acknowledged, and its put is at most that get and its
+  -- entries
   pub sent : (p q c : ℕ) → IsLine s p q c → InContact (end_at s h p q c) →
       (end_at s h p q c).shake.sent.open_complete ≡ true → (r : Recorded) →
       slice_get (records_of s h p q c) 0 ≡ Some r →
@@ -113,7 +117,7 @@ pub record Lines (s : Scenario) (h : List Event) : Type 0 where
       (end_at s h p q c).shake.sent.open_request ≡ true →
       (put_word s h p q c ≡ (end_at s h p q c).sides.send.put)
       × (get_word s h p q c ≡ (end_at s h p q c).sides.local_get)
-  -- and they stay so until they are stored as 0 for the next one, or before the area is opened
+  -- a turn leaves each counter word of p as it is, unless p makes in it a step that stores it
   pub stored : (p q c f : ℕ) (before after : List Event) (a : ℕ) (t : Turn) → IsLine s p q c →
       f < 2 → h ≡ before ++ Turned a t ∷ after →
       (word_after s (before ++ Turned a t ∷ []) p (Counter q c f)

@@ -35,8 +35,8 @@ pub record Sessions (s : Scenario) (h : List Event) : Type 0 where
   pub echo : (p q : ℕ) → ArePartners s p q → (engage_at s h p q).bit ≡ true →
       (word_after s h p (Record q 2) ≡ 0 → ⊥) →
       word_after s h p (Record q 2) ≡ word_after s h q (Record p 1)
-  -- where p is in contact with q, p's bit stands, and q's record has its session of the contact, and
-  -- p's as its echo
+  -- where p is in contact with q, p's bit stands, and q's record has its session of the
+  -- contact, and p's as its echo
   pub contact : (p q : ℕ) (k : Contact) → ArePartners s p q →
       (peer_of (state_at s h p) q).contact ≡ Some k →
       ((engage_at s h p q).bit ≡ true) × (word_after s h q (Record p 1) ≡ session_word k.theirs)

@@ -1,11 +1,11 @@
 //! What holds between every two partitions after every history that partitions make by the rules:
-//! guest and host, sessions, the queue of flags, the line.
+//! guest and host, sessions, the places of flags, the line.
 #![tactic(auto)]
 
 ghost use Rattle.std.specs.Prelude.{List};
 ghost use Rattle.xp_base.specs.History.{Event};
 ghost use Rattle.xp_base.specs.Memory.{Memory};
-ghost use Rattle.xp_invariants.specs.Flags.{FlagQueue};
+ghost use Rattle.xp_invariants.specs.Flags.{FlagPlaces};
 ghost use Rattle.xp_invariants.specs.Hosts.{GuestAndHost};
 ghost use Rattle.xp_invariants.specs.Limits.{Limits};
 ghost use Rattle.xp_invariants.specs.Lines.{Lines};
@@ -14,15 +14,17 @@ ghost use Rattle.xp_protocol.specs.Reached.{ReachedWords};
 ghost use Rattle.xp_script.specs.Lawful.{IsLawful};
 ghost use Rattle.xp_script.specs.declared.scenario.Scenario.{Scenario};
 
-/// Whatever history the rules reach in a lawful scenario: a partition's bit at another says that its
-/// own area for the other is open or being left, and keeps the other's area for it from being freed.
+/// Whatever history the rules reach in a lawful scenario: a partition's bit at another
+/// says that its own area for the other is open or being left, and keeps the other's area
+/// for it from being freed.
 pub fn guests_and_hosts()
     ensures { (s : Scenario) → IsLawful s →
         (h : List Event) (m : Memory) → ReachedWords s h m → GuestAndHost s h }
 {}
 
-/// Whatever history the rules reach in a lawful scenario: the sessions under which an area is opened
-/// rise over all boots, and an echo and a contact name sessions that the partner's record has.
+/// Whatever history the rules reach in a lawful scenario: the sessions under which an area is
+/// opened rise over all boots, and an echo and a contact name sessions that the partner's record
+/// has.
 pub fn sessions_rise()
     ensures { (s : Scenario) → IsLawful s →
         (h : List Event) (m : Memory) → ReachedWords s h m → Sessions s h }
@@ -32,7 +34,7 @@ pub fn sessions_rise()
 /// in one place at its partner, and its argument is the one that was stored for it.
 pub fn flags_in_one_place()
     ensures { (s : Scenario) → IsLawful s →
-        (h : List Event) (m : Memory) → ReachedWords s h m → FlagQueue s h }
+        (h : List Event) (m : Memory) → ReachedWords s h m → FlagPlaces s h }
 {}
 
 /// Whatever history the rules reach in a lawful scenario: in each direction of a connection the

@@ -1,5 +1,5 @@
--- Which lawful scenarios the rules of today can run: those that check no heartbeats, use neither the
--- network device nor its channel, don't count partitions that are offline, and poke no word.
+-- Which lawful scenarios the rules of today can run: those that check no heartbeats, use neither
+-- the network device nor its channel, neither go offline nor online, and poke no word.
 use Rattle.std.specs.Prelude.{◌≡◌, ◌≢◌, ℕ, ◌<◌, [], ⊤}
 use Rattle.std.specs.List.{AllByRecursion}
 use Rattle.xp_script.specs.declared.limits.TheConstants.{DEVICE_CHANNEL}

@@ -5,7 +5,7 @@ use Rattle.xp_script.specs.declared.scenario.Scenario.{Scenario}
 use Rattle.xp_protocol.specs.State.{Contact, peer_of}
 use Rattle.xp_protocol.specs.Reached.{state_at}
 
--- each is in it under the session of the other
+-- each of two partitions is in contact under the session of the other
 abbrev pub SessionsAgree : Scenario → List Event → Type 0
 SessionsAgree s h =
     (p q : ℕ) → p < s.count → q < s.count → (p ≡ q → ⊥) →

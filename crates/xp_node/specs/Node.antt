@@ -43,7 +43,7 @@ records_in records q c = slice_index_or (slice_index_or records q []) c []
 abbrev pub records_at : NodeView → ℕ → ℕ → List Recorded
 records_at n q c = records_in n.records q c
 
--- it makes no turn any more
+-- a node makes no turn any more
 abbrev pub IsEnded : NodeView → Type 0
 IsEnded n = IsDone n.part n.state
 
@@ -60,9 +60,10 @@ abbrev pub steps_of : List Turn → List Step
 steps_of [] = []
 steps_of (t ∷ ts) = steps_made t.made ++ steps_of ts
 
--- one turn with this step was made: it is permitted and follows the plan; it begins a command as
--- soon as it can, before its step, and one at most; it gives an answer in the turn in which the
--- answer becomes due, and one at most; and all that the node keeps grew by it
+-- one turn with this step was made. The turn is permitted and follows the plan. It begins a command
+-- as soon as it can, and none after its step; it gives an answer that was due before it, and leaves
+-- none due behind its acts. It begins and answers commands at most two times in all. All that the
+-- node keeps grew by the turn
 pub record MakesTurn (old new : NodeView) (made : Option Marked) : Type 0 where
   pub turn : Turn
   pub step : turn.made ≡ made
@@ -105,8 +106,8 @@ pub record HasMade (n : NodeView) (ts : List Turn) : Type 0 where
       ≡ records_after n.part ts q c
   pub steps : n.steps ≡ steps_of ts
 
--- how a node has ended: stopped as planned, halted with the word of a stamp that couldn't be raised,
--- or done
+-- how a node has ended: stopped as planned, halted with the word of a stamp that couldn't be
+-- raised, or done
 abbrev pub word_read : Option ℕ → ℕ
 word_read None = 0
 word_read (Some word) = word

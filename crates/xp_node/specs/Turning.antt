@@ -114,7 +114,7 @@ pub record Begins (s : ScenarioPart) (st : State) (old new : Partition) (entry :
   pub part : new.keeping.part ≡ s
   pub partition : IsPartition new
 
--- its step is made, where it makes one, by a rule
+-- then the turn's step is made, where it makes one, by the rule that was planned
 pub record Makes (s : ScenarioPart) (st : State) (old new : Partition) (rule : Option Rule)
     (made : Option Marked) : Type 0 where
   pub may : MayMake s st made
@@ -125,7 +125,8 @@ pub record Makes (s : ScenarioPart) (st : State) (old new : Partition) (rule : O
   pub part : new.keeping.part ≡ s
   pub partition : IsPartition new
 
--- it ends: notices and the answer are given; it is counted, and what is planned for its moment comes
+-- at last the turn ends: notices and the answer are given, the turn is counted, and what is planned
+-- for its moment comes
 pub record Ends (s : ScenarioPart) (st : State) (earlier : ℕ) (old new : Partition)
     (answer : Option LogAnswer) : Type 0 where
   pub acts : List Act
@@ -143,7 +144,7 @@ pub record Ends (s : ScenarioPart) (st : State) (earlier : ℕ) (old new : Parti
   pub part : new.keeping.part ≡ s
   pub partition : IsPartition new
 
--- all of it together
+-- the whole turn: its beginning, its step and its end
 pub record Turned (s : ScenarioPart) (st : State) (old new : Partition) (entry : Option Entry)
     (made : Option Marked) (answer : Option LogAnswer) : Type 0 where
   pub turn : Turn

@@ -3,10 +3,10 @@
 /// How a partition ended.
 #[derive(Clone, Copy)]
 pub enum Ended {
-    /// Its script is answered to the end, and nothing is owed.
+    /// The script is answered to the end, and nothing is owed.
     Done,
     /// A planned stop.
     Stopped,
-    /// Its stamp, this word, couldn't be raised.
+    /// The stamp of the partition, this word, couldn't be raised.
     Halted { word: u64 },
 }

@@ -26,9 +26,9 @@ use xp_script::scenario::Scenario;
 use xp_script::setting::Faults;
 use xp_steps::wanting::wanted;
 
-/// One partition, turn by turn. Contracts see its part of the scenario, what it knows, where it is on
-/// its rounds, its log, its records and its steps, the step that waits for its answer, and for how
-/// many turns there is room. While a step waits, all but that is as it was before the turn.
+/// One partition, turn by turn. Contracts see its part of the scenario, what it knows, where it is
+/// on its rounds, its log, its records and its steps, the step that waits for its answer, and for
+/// how many turns there is room. While a step waits, all but that is as it was before the turn.
 #[derive(Drop)]
 pub struct Node {
     partition: Partition,
@@ -111,7 +111,8 @@ impl Node {
         requires room { 0 < self.old.room }
         requires running { IsEnded self.old → ⊥ }
         requires idle { self.old.waiting ≡ None }
-        ensures some { IfSome result (λ wanted. self.new ≡ record self.old { waiting = Some wanted }) }
+        ensures some { IfSome result
+            (λ wanted. self.new ≡ record self.old { waiting = Some wanted }) }
         ensures none { IfNone result (MakesTurn self.old self.new None) }
         ensures step { IfSome result (λ wanted. IsStep self.old.part wanted) }
     {

@@ -45,7 +45,7 @@ pub struct Waiting {
 }
 
 impl Waiting {
-    /// What it does.
+    /// The step that is wanted.
     pub fn wanted(&self) -> Wanted
         ensures { result ≡ self.now.wanted }
     {

@@ -239,7 +239,7 @@ impl Handshake {
         }
     }
 
-    // There is contact, and both ends have seen the open complete.
+    // Whether there is contact, and both ends have seen the open complete.
     fn is_complete(&self) -> bool
         ensures { result ≡ both_complete self.now }
     {

@@ -1,5 +1,5 @@
--- When a read or a write may answer a fault. Each object counts its own faults, and a fault is answered only
--- in a call in which that count rose, so that no code can make one up.
+-- When a read or a write may answer a fault. Each object counts its own faults, and a fault is
+-- answered only in a call in which that count rose, so that no code can make one up.
 use Rattle.std.specs.Prelude.{◌≡◌, ℕ, ◌+◌, ◌-◌, ◌^◌, ◌<◌, ◌≤◌, min, Result, OnErr, OnOk, IfOk, IsErrOf, List, length}
 use Rattle.xp_outside.specs.declared.sink.SinkFault.{SinkFault}
 use Rattle.xp_outside.specs.declared.sink.SinkFault.TheVariants.{Failed, Memory}
@@ -8,14 +8,16 @@ use Rattle.xp_outside.specs.declared.sink.SinkFault.TheVariants.{Failed, Memory}
 abbrev pub Rose : ℕ → ℕ → Type 0
 Rose before now = min (before + 1) (2 ^ 64 - 1) ≤ now
 
--- of a read: a fault is answered only where the count rose, and without one it stays
+-- the cause of a read's fault: a fault is answered only where the count rose, and without a fault
+-- the count stays
 pub record HasCause {T E : Type 0} (before now : ℕ) (result : Result T E) : Type 0 where
   -- the count never falls
   pub later : before ≤ now
   pub failed : OnErr result (Rose before now)
   pub kept : OnOk result (now ≡ before)
 
--- of a write: to take none of a piece that isn't empty is a fault too, and every other answer leaves the count
+-- the cause of a write's fault: to take none of a piece that isn't empty is a fault too, and every
+-- other answer leaves the count
 pub record WriteCause (before now : ℕ) (result : Result ℕ SinkFault) (piece : List ℕ) : Type 0 where
   -- the count never falls
   pub later : before ≤ now

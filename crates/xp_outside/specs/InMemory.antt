@@ -1,4 +1,5 @@
--- What the sources and sinks in memory stand for. Their calls are counted from 1, and some of them fail.
+-- What the sources and sinks in memory stand for. Their calls are counted from 1, and some of them
+-- fail.
 use Rattle.std.specs.Prelude.{ℕ, ◌+◌, ◌-◌, ◌^◌, min, List}
 
 -- a source in memory
@@ -11,12 +12,12 @@ pub record SourceState : Type 0 where
   pub failing : List ℕ
   -- how many calls were made
   pub calls : ℕ
-  -- how many of them failed
+  -- how many calls failed
   pub faults : ℕ
 
 -- a sink in memory
 pub record SinkState : Type 0 where
-  -- the bytes that it holds
+  -- the bytes that the sink holds
   pub held : List ℕ
   -- how many bytes a call takes at most
   pub largest : ℕ
@@ -24,7 +25,7 @@ pub record SinkState : Type 0 where
   pub failing : List ℕ
   -- how many calls were made, but for those that found no memory
   pub calls : ℕ
-  -- how many of them failed
+  -- how many calls failed
   pub faults : ℕ
 
 -- the number of the call after so many; it stands still at its type's end

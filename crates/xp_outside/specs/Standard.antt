@@ -1,4 +1,5 @@
--- What the adapters of standard input and output stand for: a reader or a writer of std, and a count of faults.
+-- What the adapters of standard input and output stand for: a reader or a writer of std, and a
+-- count of faults.
 use Rattle.std.specs.Prelude.{ℕ}
 use Rattle.xp_outside.specs.declared.standard.StdSource.{StdSource}
 use Rattle.xp_outside.specs.declared.standard.StdSink.{StdSink}

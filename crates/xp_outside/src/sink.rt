@@ -19,14 +19,14 @@ pub enum SinkFault {
 
 /// Where bytes go to. It takes them in their order, as many of a piece as it likes.
 pub trait Sink {
-    /// The bytes that it holds, where it tells them.
+    /// The bytes that the sink holds, where it tells them.
     ghost held: { Self → Option (List ℕ) };
 
-    /// How often it has failed.
+    /// How often the sink has failed.
     ghost faults: { Self → ℕ };
 
-    /// Takes the first bytes of a piece, and says how many. To take none of a piece that isn't empty is a fault, which
-    /// it counts. An error takes none.
+    /// Takes the first bytes of a piece, and says how many. To take none of a piece that isn't
+    /// empty is a fault, which it counts. An error takes none.
     fn write(&mut self, bytes: &[u8]) -> Result<usize, SinkFault>
         requires { faults self.old < 2 ^ 64 - 1 }
         ensures bound { WritesAtMost result bytes.now }
@@ -34,17 +34,20 @@ pub trait Sink {
         ensures cause { WriteCause (faults self.old) (faults self.new) result bytes.now };
 }
 
-/// Writes all bytes, in as many writes as the sink wants. A write that takes none ends it, as `Failed`.
+/// Writes all bytes, in as many writes as the sink wants. A write that takes none ends it, as
+/// `Failed`.
 pub fn write_all<K: Sink>(sink: &mut K, bytes: &[u8]) -> Result<(), SinkFault>
     requires { K.faults sink.old < 2 ^ 64 - 1 }
 
     // At Ok the sink has taken all of them, and else a front of them.
     ensures ok { OnOk result (Appends (K.held sink.old) (K.held sink.new) bytes.now) }
-    ensures prefix { OnErr result ((n : ℕ) × (n ≤ length bytes.now) × Appends (K.held sink.old) (K.held sink.new) (take n bytes.now)) }
+    ensures prefix { OnErr result ((n : ℕ) × (n ≤ length bytes.now)
+        × Appends (K.held sink.old) (K.held sink.new) (take n bytes.now)) }
 
     // A fault has its cause, and every other answer leaves the count.
     ensures later { K.faults sink.old ≤ K.faults sink.new }
-    ensures failed { IsErrOf result SinkFault.Failed → Rose (K.faults sink.old) (K.faults sink.new) }
+    ensures failed { IsErrOf result SinkFault.Failed
+        → Rose (K.faults sink.old) (K.faults sink.new) }
     ensures kept { OnOk result (K.faults sink.new ≡ K.faults sink.old) }
     ensures kept_memory { IsErrOf result SinkFault.Memory → K.faults sink.new ≡ K.faults sink.old }
 {
@@ -62,7 +65,8 @@ pub fn write_all<K: Sink>(sink: &mut K, bytes: &[u8]) -> Result<(), SinkFault>
     Ok(())
 }
 
-/// A sink in memory that takes at most some number of bytes in a call, and some of whose calls fail, as a test wants them.
+/// A sink in memory that takes at most some number of bytes in a call, and some of whose calls
+/// fail, as a test wants them.
 #[derive(Drop)]
 pub struct MemorySink {
     bytes: Vec<u8>,
@@ -78,14 +82,20 @@ impl Model for MemorySink {
 
     ghost Value = { SinkState };
 
-    ghost view = { λ s. record { held = s.bytes.items; largest = s.largest; failing = s.failing.items; calls = s.calls; faults = s.faults } };
+    ghost view = { λ s. record {
+      held = s.bytes.items;
+      largest = s.largest;
+      failing = s.failing.items;
+      calls = s.calls;
+      faults = s.faults;
+    } };
 
     ghost invariant = { λ s. 1 ≤ s.largest };
 }
 
 impl MemorySink {
-    /// An empty sink. `failing` has the numbers of the calls that fail; the first call has number 1, and a call that
-    /// finds no memory has none.
+    /// An empty sink. `failing` has the numbers of the calls that fail; the first call has number
+    /// 1, and a call that finds no memory has none.
     pub fn new(alloc: Global, largest: usize, failing: Vec<u64>) -> MemorySink
         requires { 1 ≤ largest }
         ensures held { result.held ≡ [] }
@@ -103,7 +113,7 @@ impl MemorySink {
         }
     }
 
-    /// The bytes that it holds.
+    /// The bytes that the sink holds.
     pub fn bytes(&self) -> &[u8]
         ensures { result.now ≡ self.now.held }
     {
@@ -123,10 +133,12 @@ impl Sink for MemorySink {
         ensures cause { WriteCause self.old.faults self.new.faults result bytes.now }
 
         // The calls whose numbers were given fail, each once, and no others.
-        ensures fails { IsErrOf result SinkFault.Failed ↔ Contains self.old.failing (next_call self.old.calls) }
+        ensures fails { IsErrOf result SinkFault.Failed
+            ↔ Contains self.old.failing (next_call self.old.calls) }
         ensures fault { IsErrOf result SinkFault.Failed → self.new.faults ≡ self.old.faults + 1 }
         ensures count { IfOk result (λ n. n ≡ min self.old.largest (length bytes.now)) }
-        ensures call_failed { IsErrOf result SinkFault.Failed → self.new.calls ≡ next_call self.old.calls }
+        ensures call_failed { IsErrOf result SinkFault.Failed
+            → self.new.calls ≡ next_call self.old.calls }
         ensures call_taken { OnOk result (self.new.calls ≡ next_call self.old.calls) }
         ensures memory { IsErrOf result SinkFault.Memory → self.new ≡ self.old }
         ensures failing { self.new.failing ≡ self.old.failing }
@@ -173,7 +185,7 @@ impl WholeSink {
         }
     }
 
-    /// The bytes that it holds.
+    /// The bytes that the sink holds.
     pub fn bytes(&self) -> &[u8]
         ensures { result.now ≡ self.now }
     {

@@ -15,14 +15,15 @@ pub struct Failed {}
 
 /// Where bytes come from. It gives them in their order, each once, in pieces of its own choice.
 pub trait Source {
-    /// The bytes that are left, where it tells them.
+    /// The bytes that are left, where the source tells them.
     ghost left: { Self → Option (List ℕ) };
 
-    /// How often it has failed.
+    /// How often the source has failed.
     ghost faults: { Self → ℕ };
 
-    /// Moves the next bytes to the front of a piece, and says how many. None, for a piece that isn't empty, is the end
-    /// of the input. What the rest of the piece holds afterwards isn't said, nor what all of it holds after a failure.
+    /// Moves the next bytes to the front of a piece, and says how many. None, for a piece that
+    /// isn't empty, is the end of the input. What the rest of the piece holds afterwards isn't
+    /// said, nor what all of it holds after a failure.
     fn read(&mut self, into: &mut [u8]) -> Result<usize, Failed>
         requires { faults self.old < 2 ^ 64 - 1 }
         ensures bound { ReadsAtMost result into.new }
@@ -146,14 +147,16 @@ fn give(bytes: &[u8], given: usize, most: usize, into: &mut [u8]) -> usize
     ensures bound { result ≤ length into.new }
     ensures count { result ≡ min most (min (length bytes.now - given) (length into.old)) }
     ensures moved { drop given bytes.now ≡ take result into.new ++ drop (given + result) bytes.now }
-    ensures none { 0 < most → result ≡ 0 → 0 < length into.new → drop (given + result) bytes.now ≡ [] }
+    ensures none { 0 < most → result ≡ 0 → 0 < length into.new
+        → drop (given + result) bytes.now ≡ [] }
 {
     let count = most.min((bytes.len() - given).min(into.len()));
     into[..count].copy_from_slice(&bytes[given..given + count]);
     count
 }
 
-/// A source in memory whose pieces have at most some length, and some of whose calls fail, as a test wants them.
+/// A source in memory whose pieces have at most some length, and some of whose calls
+/// fail, as a test wants them.
 #[derive(Drop)]
 pub struct MemorySource {
     bytes: Vec<u8>,
@@ -170,13 +173,20 @@ impl Model for MemorySource {
 
     ghost Value = { SourceState };
 
-    ghost view = { λ s. record { left = drop s.given s.bytes.items; largest = s.largest; failing = s.failing.items; calls = s.calls; faults = s.faults } };
+    ghost view = { λ s. record {
+      left = drop s.given s.bytes.items;
+      largest = s.largest;
+      failing = s.failing.items;
+      calls = s.calls;
+      faults = s.faults;
+    } };
 
     ghost invariant = { λ s. (s.given ≤ length s.bytes.items) × (1 ≤ s.largest) };
 }
 
 impl MemorySource {
-    /// A source of these bytes. `failing` has the numbers of the calls that fail; the first call has number 1.
+    /// A source of these bytes. `failing` has the numbers of the calls that fail; the
+    /// first call has number 1.
     pub fn new(bytes: Vec<u8>, largest: usize, failing: Vec<u64>) -> MemorySource
         requires { 1 ≤ largest }
         ensures left { result.left ≡ bytes.items }
@@ -210,7 +220,8 @@ impl Source for MemorySource {
         // The calls whose numbers were given fail, each once, and no others.
         ensures fails { IsErr result ↔ Contains self.old.failing (next_call self.old.calls) }
         ensures fault { OnErr result (self.new.faults ≡ self.old.faults + 1) }
-        ensures count { IfOk result (λ n. n ≡ min self.old.largest (min (length self.old.left) (length into.old))) }
+        ensures count { IfOk result
+            (λ n. n ≡ min self.old.largest (min (length self.old.left) (length into.old))) }
         ensures call { self.new.calls ≡ next_call self.old.calls }
         ensures failing { self.new.failing ≡ self.old.failing }
         ensures largest { self.new.largest ≡ self.old.largest }

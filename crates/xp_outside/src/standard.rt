@@ -1,5 +1,6 @@
-// Standard input and output as a source and a sink. This is the edge of what is proved: what the reader and the writer of
-// std tell of their bytes is told here, and standard input and output tell nothing.
+// Standard input and output as a source and a sink. This is the edge of what is proved:
+// what the reader and the writer of std tell of their bytes is told here, and standard
+// input and output tell nothing.
 ghost use Rattle.std.specs.Prelude.{◌≡◌, ℕ, ◌<◌, ◌-◌, ◌^◌, IsErrOf};
 ghost use Rattle.std.specs.Io.{WritesAtMost};
 ghost use Rattle.std.specs.Io.KnownBytes.{WriteAppends};
@@ -46,8 +47,9 @@ impl<R: Read> Source for StdSource<R> {
     }
 }
 
-/// A writer of std, as standard output, as a sink. Each error of the writer is a fault, and so is a write that takes none
-/// of a piece that isn't empty. It flushes nothing: what a writer keeps back is flushed by who takes it back.
+/// A writer of std, as standard output, as a sink. Each error of the writer is a fault, and so is a
+/// write that takes none of a piece that isn't empty. It flushes nothing: what a writer keeps back
+/// is flushed by who takes it back.
 #[derive(Drop)]
 pub struct StdSink<W> {
     inner: W,
@@ -83,8 +85,10 @@ impl<W: Write> Sink for StdSink<W> {
     fn write(&mut self, bytes: &[u8]) -> Result<usize, SinkFault>
         requires { write_faults self.old < 2 ^ 64 - 1 }
         ensures bound { WritesAtMost result bytes.now }
-        ensures bytes { WriteAppends (W.contents (writer_of self.old)) (W.contents (writer_of self.new)) result bytes.now }
-        ensures cause { WriteCause (write_faults self.old) (write_faults self.new) result bytes.now }
+        ensures bytes { WriteAppends (W.contents (writer_of self.old))
+            (W.contents (writer_of self.new)) result bytes.now }
+        ensures cause { WriteCause (write_faults self.old) (write_faults self.new)
+            result bytes.now }
         ensures never_memory { IsErrOf result SinkFault.Memory → ⊥ }
     {
         match self.inner.write(bytes) {

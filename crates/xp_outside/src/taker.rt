@@ -7,8 +7,8 @@ use std::alloc::{AllocError, Global};
 
 /// Takes an input, piece by piece in its order. It keeps of the bytes what it needs.
 pub trait Taker {
-    /// What it was before some bytes, these bytes, and what it is after them, however they were
-    /// cut.
+    /// What the taker was before some bytes, these bytes, and what the taker is after them, however
+    /// the bytes were cut.
     ghost takes: { Self → List ℕ → Self → Type 0 };
 
     /// Takes the next bytes. An error is want of memory, and what it took then isn't said.

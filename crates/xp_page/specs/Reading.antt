@@ -56,7 +56,7 @@ IsReadOf words rows offset bytes (Ok x) = AllowedTo rows bytes (length rows)
     × (words x ≡ words_in bytes 0 (length rows))
 IsReadOf words rows offset bytes (Err fault) = IsFirstFault rows offset bytes fault
 
--- these words are an image of the table
+-- the words are an image of the table
 abbrev pub IsOf : List Row → List ℕ → Type 0
 IsOf rows words = (k : ℕ) → k < length rows
     → allows (row_at rows k).allowed (get_or words k 0) ≡ true

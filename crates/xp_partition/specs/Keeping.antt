@@ -52,7 +52,7 @@ pub record IsKept (x : Keeping) : Type 0 where
   pub partitions : x.boot.count ≡ x.part.count
   pub boot : x.life ≡ Booting → IsBooted x.part x.boot x.partners
 
--- and the turn that is made next can be counted
+-- what always holds, and the turn that is made next can be counted
 pub record CanAsk (x : Keeping) : Type 0 where
   pub kept : IsKept x
   pub turns : x.clock.turns < 2 ^ 64 - 1

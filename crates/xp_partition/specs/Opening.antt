@@ -23,7 +23,7 @@ cold_standing s q =
 abbrev pub cold_partner : ScenarioPart → ℕ → Partner
 cold_partner s q = of_standing (cold_standing s q)
 
--- one that is in contact knows nothing else, and all its ends are in contact
+-- a partner that opens in contact: nothing else is known of it, and all its ends are in contact
 pub record IsWarm (new : Bool) (x : Partner) : Type 0 where
   pub wanted : x.standing.wanted ≡ true
   pub look : x.standing.look ≡ Unseen
@@ -45,13 +45,14 @@ pub record IsStanding (s : ScenarioPart) (stamp mask q : ℕ) (x : Standing) : T
   pub stamped : x.stamp ≡ stamp
   pub masked : x.masked ≡ is_flagged mask q
 
--- one of them is warm then, with one more of its channels connected
+-- partner q of `y` is as in `x`, but warm, with one more of its channels connected
 pub record IsWarmedAt (theirs window q c : ℕ) (size : Size) (x y : Partners) : Type 0 where
   pub whole : y ≡ with_partner q (partner_at y.list q) x
   pub partner : partner_at y.list q
       ≡ rooms_of (warmed theirs window c size (partner_at x.list q)) (partner_at y.list q)
 
--- the records of an end once these links are connected too: that of its own link alone
+-- the records of an end once more links are connected: where one of them is the end's own, the
+-- record of that link alone
 abbrev pub linked_records : List Link → ℕ → ℕ → List Recorded → List Recorded
 linked_records [] q c records = records
 linked_records (l ∷ ls) q c records =

@@ -17,16 +17,16 @@ use crate::progress::Progress;
 use xp_discover::boot::Boot;
 use xp_script::part::ScenarioPart;
 
-/// What a partition keeps beside its visits: its part of the scenario, whether it stopped as planned,
-/// its boot and the stamp of it, the heartbeat mask that was stored last, what it counts over all
-/// boots, how far the script of this boot has come, and its partners.
+/// What a partition keeps beside its visits: its part of the scenario, whether it stopped as
+/// planned, its boot and the stamp of it, the heartbeat mask that was stored last, what it counts
+/// over all boots, how far the script of this boot has come, and its partners.
 #[derive(Drop)]
 pub struct Keeping {
     pub part: ScenarioPart,
     pub stopped: bool,
     pub life: Life,
     pub boot: Boot,
-    /// That of the boot, once it is over, and 0 before.
+    /// The stamp of the boot, once the boot is over, and 0 before.
     pub stamp: u32,
     pub mask: u64,
     pub clock: Clock,

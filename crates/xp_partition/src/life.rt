@@ -6,16 +6,16 @@ ghost use Rattle.xp_partition.specs.Life.{life_seen};
 /// Where a partition is in its boot.
 #[derive(Clone, Copy)]
 pub enum Life {
-    /// It boots: it makes the steps of its boot alone.
+    /// The partition boots: it makes the steps of its boot alone.
     Booting,
-    /// Its boot is over.
+    /// The boot is over.
     Up,
-    /// Its stamp, this word, couldn't be raised: it makes no turn any more.
+    /// The stamp, this word, couldn't be raised: the partition makes no turn any more.
     Halted { word: u64 },
 }
 
 impl Life {
-    /// Whether it makes no turn any more.
+    /// Whether the partition halted.
     pub fn is_halted(self) -> bool
         ensures { result ≡ is_halted (life_seen self) }
     {

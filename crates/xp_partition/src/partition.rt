@@ -42,7 +42,7 @@ fn opening_life(links: &Links) -> Life
     }
 }
 
-// The stamp that it opens with.
+// The stamp that a partition opens with.
 fn opening_stamp(links: &Links) -> u32
     ensures { result ≡ opening_stamp links.now }
 {
@@ -96,8 +96,8 @@ impl Partition {
         self.planner.next(&self.keeping)
     }
 
-    /// Makes room for a turn at the ends of the partners that were touched since room was made, and
-    /// at no other. After want of memory all is as before, but for more room.
+    /// Makes room for a turn at the ends of the partners that were touched since room was made.
+    /// After want of memory all is as before, but for more room.
     #[tactic(auto, using(crate::proofs::Kept::reserving))]
     pub fn reserve(&mut self) -> Result<(), AllocError>
         requires { IsPartition self.old }

@@ -17,8 +17,8 @@ use xp_base::ids::PartId;
 use xp_base::masks;
 use xp_partner::partner::Partner;
 
-/// The partners of a partition, by number: one for each partition, the own one among them. Contracts
-/// see them, and the set of those that were touched since room was made at them.
+/// The partners of a partition, by number: one for each partition, the own one among them.
+/// Contracts see them, and the set of those that were touched since room was made at them.
 #[derive(Drop)]
 pub struct Partners {
     list: Vec<Partner>,
@@ -34,7 +34,7 @@ impl Model for Partners {
 }
 
 impl Partners {
-    /// How many there are.
+    /// How many partners there are.
     pub fn len(&self) -> u8
         requires { length self.now.list ≤ PARTS }
         ensures { result ≡ length self.now.list }
@@ -57,7 +57,7 @@ impl Partners {
         self.list.get(number.get() as usize)
     }
 
-    /// Which of them were touched since room was made: a bit for each.
+    /// Which partners were touched since room was made: a bit for each.
     pub fn touched(&self) -> u64
         ensures { result ≡ self.now.touched }
     {

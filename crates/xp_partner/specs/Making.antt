@@ -17,7 +17,7 @@ use Rattle.xp_engage.specs.Partner.{seen_in, here}
 use Rattle.xp_channel.specs.Channel.{Channel}
 use Rattle.xp_partner.specs.Partner.{Partner, peer_seen, channel_at, channel_of, each_kept}
 
--- the ends as they are then, each with what it notes in its records
+-- the ends after an effect, each with what it notes in its records
 abbrev pub each_noted : List End → (ℕ → List Note) → ℕ → List Channel → List Channel
 each_noted links notes c [] = []
 each_noted links notes c (x ∷ xs) = record x {
@@ -25,7 +25,7 @@ each_noted links notes c (x ∷ xs) = record x {
   records = with_notes x.partner x.channel (notes c) x.records;
 } ∷ each_noted links notes (c + 1) xs
 
--- the partner as it is known then
+-- the partner as it is known after an effect
 abbrev pub known_as : Peer → (ℕ → List Note) → Partner → Partner
 known_as p notes x = record x {
   standing = seen_in x.standing p;

@@ -25,7 +25,7 @@ channel_of x c = channel_at x.channels c
 abbrev pub going_at : Partner → ℕ → Going
 going_at x c = slice_index_or x.going c no_going
 
--- what is known of it
+-- what is known of an end, and of a partner with all its ends
 abbrev pub end_seen : Channel → End
 end_seen x = x.end
 

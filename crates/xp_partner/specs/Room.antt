@@ -7,20 +7,20 @@ use Rattle.xp_channel.specs.Channel.{Channel}
 use Rattle.xp_channel.specs.Room.{HasTurnRoom, IsNoLess, needs_sides}
 use Rattle.xp_partner.specs.Partner.{Partner, channel_at, channel_of}
 
--- before the step of a turn: for so many notes, the step's among them
+-- an end has room before the step of a turn: for so many notes, the step's among them
 pub record HasNotes (notes : ℕ) (x : Channel) : Type 0 where
   pub ready : needs_sides x.end ≡ true → x.room.ready ≡ true
   pub calls : needs_sides x.end ≡ true → notes ≤ x.room.calls
   pub ends : needs_sides x.end ≡ true → LINES ≤ x.room.ends
   pub next : IsSome x.end.shake.meet → 2 ≤ x.room.next
 
--- after it
+-- an end has room after the step of a turn, for so many notes
 pub record HasNotesLeft (notes : ℕ) (x : Channel) : Type 0 where
   pub ready : x.end.shake.sent.open_complete ≡ true → x.room.ready ≡ true
   pub calls : x.end.shake.sent.open_complete ≡ true → notes ≤ x.room.calls
   pub ends : x.end.shake.sent.open_complete ≡ true → LINES ≤ x.room.ends
 
--- at each end
+-- each end of a partner has the room
 abbrev pub HaveTurnRoom : Partner → Type 0
 HaveTurnRoom x = (c : ℕ) → c < CHANNELS → HasTurnRoom (channel_of x c)
 

@@ -6,7 +6,7 @@ ghost use Rattle.xp_protocol.specs.Peering.{numbers_after};
 use std::marker::Model;
 use xp_base::step::{CopyKind, CopyMark};
 
-/// The numbers of the copies of a channel that go on: of its counters, and of an entry.
+/// The numbers of the copies of a channel that go on: of its counters, and of a run of entries.
 #[derive(Drop)]
 pub struct ChannelCopies {
     counters: u64,

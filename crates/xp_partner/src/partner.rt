@@ -115,7 +115,7 @@ impl Partner {
         }
     }
 
-    /// How the partition stands to it.
+    /// How the partition stands to the partner.
     pub fn standing(&self) -> &PartnerEnd
         ensures { result.now ≡ self.now.standing }
     {

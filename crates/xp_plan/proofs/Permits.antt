@@ -20,7 +20,7 @@ use Rattle.xp_protocol.specs.declared.rule.PeerRule.TheVariants.{TakeFlags, Zero
 use Rattle.xp_protocol.specs.declared.rule.OwnRule.TheVariants.{ReadEngaged, TakeActivation, TakeDeactivation, ReadStamp, ZeroMask, ZeroOffline, WriteStamp, StoreMask}
 use Rattle.xp_protocol.specs.declared.rule.Rule.{Rule}
 use Rattle.xp_protocol.specs.declared.rule.Rule.TheVariants.{Link, Peer as ForPeer, Own}
-use Rattle.xp_protocol.specs.Parts.{IsLawfulPart, IsPeer}
+use Rattle.xp_protocol.specs.Parts.{IsLawfulPart, IsEndOf}
 use Rattle.xp_protocol.specs.State.{State, Life, Booting, Up, Halted, Engage, Peer, Off, peer_of, peer_at, end_of}
 use Rattle.xp_protocol.specs.Peering.{is_prepared, is_off}
 use Rattle.xp_protocol.specs.Linking.{link_can}
@@ -70,10 +70,10 @@ module _ (s : ScenarioPart) (st : State) (lawful : IsLawfulPart s) (h : IsSound 
   sound : (q c : ℕ) → q < s.count → c < CHANNELS → IsSoundEnd (end_of st q c)
   sound q c low few = (h.peers q low).ends c few
 
-  peer_link : (q c : ℕ) (o : Option LinkRule) (r : Rule) → st.life ≡ Up → IsPeer s.part s.count q c → (IsSoundEnd (end_of st q c) → (m : LinkRule) → o ≡ Some m → link_can (end_of st q c) m) → link_asked st q c o ≡ Some r → Can s st r
+  peer_link : (q c : ℕ) (o : Option LinkRule) (r : Rule) → st.life ≡ Up → IsEndOf s.part s.count q c → (IsSoundEnd (end_of st q c) → (m : LinkRule) → o ≡ Some m → link_can (end_of st q c) m) → link_asked st q c o ≡ Some r → Can s st r
   peer_link q c o r up is can e = link_asked_can s st q c o r up (record { low = is.0; other = is.1 }) is.2 (λ m i. can (sound q c is.0 is.2) m i) e
 
-  none_can : (q c : ℕ) (r : Rule) → st.life ≡ Up → IsPeer s.part s.count q c → link_asked st q c None ≡ Some r → Can s st r
+  none_can : (q c : ℕ) (r : Rule) → st.life ≡ Up → IsEndOf s.part s.count q c → link_asked st q c None ≡ Some r → Can s st r
   none_can q c r up is e = peer_link q c None r up is (λ x m i. absurd (cc)) e
 
   command_can : (used : ℕ) (x : Command) (r : Rule) → st.life ≡ Up → IsLawfulCommand s x → command_at st used x (named_end x) ≡ Some r → Can s st r

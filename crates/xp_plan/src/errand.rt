@@ -3,7 +3,7 @@
 /// What is to be done at a place in one visit. It is fixed when the place is come to.
 #[derive(Clone, Copy)]
 pub enum Agenda {
-    /// At every place, until the partition is booted.
+    /// At every place, until the partition is booted, and of a partition that halted.
     Boot,
     /// At the own place.
     Own,

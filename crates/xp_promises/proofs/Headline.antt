@@ -19,7 +19,7 @@ use Rattle.xp_script.specs.Lawful.{IsLawful}
 use Rattle.xp_protocol.specs.Records.{Recorded, opened_record, blank_record, first_session}
 use Rattle.xp_protocol.specs.State.{State, Contact, Ready, End, Size, opened_state, opened_new, end_of, warm_end, first_met, size_of}
 use Rattle.xp_protocol.specs.Reached.{ReachedWords, state_at}
-use Rattle.xp_protocol.specs.Promised.{those_in, sent_order, word_answered, known_acted, Withdraws, IsSettled, IsQueue, AreArguments, FlagsInOrder, word_of, IsUnrefused, NothingRefused, records_of, Name, exchanged, by_name, is_name, name_of, IsLine, IsPrefixOf, accepted_of, first_named, KeepsPromises}
+use Rattle.xp_protocol.specs.Promised.{those_in, sent_order, word_answered, known_acted, Withdraws, IsSettled, IsQueue, AreArguments, FlagsInOrder, word_of, IsUnrefused, NothingRefused, records_of, Name, exchanged, by_name, is_name, name_of, IsLine, IsPrefixOf, accepted_of, first_named, KeepsPrefixes}
 use Rattle.xp_protocol.proofs.LawfulParts.{lawful_part}
 use Rattle.xp_meetings.proofs.Starts.{starts}
 use Rattle.xp_meetings.proofs.Parts.{Part, part_opened, part_start, part_act, part_acts, part_ruled, part_moment, part_from, acts_state, from_state, from_books}
@@ -667,13 +667,13 @@ module _ (s : Scenario) (law : IsLawful s) where
       peer_low : (k : ℕ) (m : PeerRule) → rule ≡ ForPeer k m → k < s.count
       peer_low k m e = let z = subst (λ (y : Rule). Can (part_of s p) (known_acted s h p acts) y) e can in z.1.0.low
 
-  pub promises : (h : List Event) (m : Memory) → ReachedWords s h m → KeepsPromises s h
+  pub promises : (h : List Event) (m : Memory) → ReachedWords s h m → KeepsPrefixes s h
   promises h m r = record {
     names = λ p q c l k. (reached h m r p q c l).sends k;
     records = λ p q c l z is. record_front (records_of s h p q c) (records_of s h q p c) (reached h m r p q c l) is.number z is.listed;
   }
 
-pub kept : (s : Scenario) → IsLawful s → (h : List Event) (m : Memory) → ReachedWords s h m → KeepsPromises s h
+pub kept : (s : Scenario) → IsLawful s → (h : List Event) (m : Memory) → ReachedWords s h m → KeepsPrefixes s h
 kept s law h m r = promises s law h m r
 
 pub none_refused : (s : Scenario) → IsLawful s → (h : List Event) (m : Memory) → ReachedWords s h m → NothingRefused s h m

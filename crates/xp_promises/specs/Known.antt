@@ -15,7 +15,7 @@ VersionsKnown s h =
     (peer_of (state_at s h p) q).both_new
     ≡ are_new (version_word (minor_of p s.minors)) (version_word (minor_of q s.minors))
 
--- so both know the same
+-- two partitions in contact know the same of whether both versions know entries of several lines
 abbrev pub VersionsAgree : Scenario → List Event → Type 0
 VersionsAgree s h =
     (p q : ℕ) → p < s.count → q < s.count → (p ≡ q → ⊥) →

@@ -6,15 +6,15 @@ ghost use Rattle.xp_script.specs.declared.scenario.Scenario.{Scenario};
 ghost use Rattle.xp_script.specs.Lawful.{IsLawful};
 ghost use Rattle.xp_protocol.specs.Reached.{ReachedWords};
 ghost use Rattle.xp_promises.specs.Known.{VersionsAgree, VersionsKnown};
-ghost use Rattle.xp_protocol.specs.Promised.{FlagsInOrder, Guarded, KeepsPromises, NothingRefused, Notices, Reuse, VersionsStand, Withdraws};
+ghost use Rattle.xp_protocol.specs.Promised.{FlagsInOrder, Guarded, KeepsPrefixes, NothingRefused, Notices, Reuse, VersionsStand, Withdraws};
 
 /// Whatever history the rules reach in a lawful scenario: what was taken at an end in a connection
 /// is a prefix of what was accepted at the other in it, for each connection that ever was, by its
 /// epoch and the sessions of both ends, on each channel of each two partitions, whether it opens
 /// connected or not, and however often contact is lost and made anew.
-pub fn promises_kept()
+pub fn prefixes_kept()
     ensures { (s : Scenario) → IsLawful s →
-        (h : List Event) (m : Memory) → ReachedWords s h m → KeepsPromises s h }
+        (h : List Event) (m : Memory) → ReachedWords s h m → KeepsPrefixes s h }
 {}
 
 /// Whatever history the rules reach in a lawful scenario: no magic, no flag, no argument, no

@@ -16,7 +16,7 @@ use Rattle.xp_script.specs.Lawful.{AreLawfulCommands as AreLawfulWords, IsLawful
 use Rattle.xp_script.specs.Parts.{link_to, link_in, links_to, links_from, part_of}
 use Rattle.xp_script.specs.Settings.{joins, minor_of}
 use Rattle.xp_script.specs.Sizes.{IsSize, longest_limit}
-use Rattle.xp_protocol.specs.Parts.{IsPeer, IsRequestSize, IsLawfulLink, AreLawfulLinks, IsLawfulCommand, AreLawfulCommands, IsLawfulPart}
+use Rattle.xp_protocol.specs.Parts.{IsEndOf, IsRequestSize, IsLawfulLink, AreLawfulLinks, IsLawfulCommand, AreLawfulCommands, IsLawfulPart}
 
 -- a line that joins two partitions makes them peers
 peer_by : (p q c count : ℕ) (first second channel : ℕ) → first < count → second < count → (first ≡ second → ⊥) → channel < 4 → ((nat_eq first p && nat_eq second q) || (nat_eq first q && nat_eq second p)) && nat_eq channel c ≡ true → (q < count) × (q ≢ p) × (c < 4)
@@ -86,7 +86,7 @@ few_from p q zero ws = omega arith
 few_from p q (suc n) ws = omega (arith, length-append (links_to p q 0 CHANNELS ws) (links_from p (q + 1) n ws), few_to p q 0 CHANNELS ws, few_from p (q + 1) n ws)
 
 -- a command that names an end names one of a peer
-peer : (s : ScenarioPart) (q c : ℕ) → IsEnd s.count s.part q c → IsPeer s.part s.count q c
+peer : (s : ScenarioPart) (q c : ℕ) → IsEnd s.count s.part q c → IsEndOf s.part s.count q c
 peer s q c h = (h.partner, h.other, h.channel)
 
 lawful_one : (s : ScenarioPart) (minor : ℕ) (x : Command) → IsLawfulWord s.count s.part minor x → IsLawfulCommand s x

@@ -49,7 +49,7 @@ abbrev pub get_stored : Bool → ℕ → ℕ → Option Rule
 get_stored true q c = Some (Link q c Acknowledge)
 get_stored false q c = Some (Link q c ZeroGet)
 
--- before the memory is open they are among its words
+-- the counters are among the words that are stored before the memory is open, and else an end's
 abbrev pub counter_stored : Area → Bool → ℕ → ℕ → ℕ → Option Rule
 counter_stored Off complete q c f = Some (Peer q (Prepare (CounterWord c f)))
 counter_stored area complete q c f =

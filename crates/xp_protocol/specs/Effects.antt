@@ -91,7 +91,7 @@ pub record Effect (L N : Type 0) : Type 0 where
   pub reason : Option Reason
   pub notes : N
 
--- nothing but the change
+-- a change that gives no reason and no note
 abbrev pub just : {L : Type 0} → L → Effect L (List Note)
 just x = record { local = x; reason = None; notes = [] }
 
@@ -100,7 +100,7 @@ abbrev pub first_reason : Option Reason → Option Reason → Option Reason
 first_reason None later = later
 first_reason (Some reason) later = Some reason
 
--- one after the other
+-- two effects one after the other
 abbrev pub and_then : {L : Type 0} → Effect L (List Note) → (L → Effect L (List Note)) →
     Effect L (List Note)
 and_then f g =

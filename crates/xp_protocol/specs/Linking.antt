@@ -153,8 +153,8 @@ argument_stored Request e =
 argument_stored Reply e = record e { shake = record e.shake { reply_put = true } }
 argument_stored Code e = record e { shake = record e.shake { code_put = true } }
 
--- both counters were stored as 0 before the open request, and before each flag its argument: that
--- of the open request is the word of the registration that stands
+-- what was stored before a flag is sent: before the open request both counters as 0, and before
+-- each flag its argument. The open request's is the word of the registration that stands
 abbrev pub IsReady : Kind → End → Type 0
 IsReady OpenRequest e =
     (e.shake.get_zero ≡ true) × (e.shake.put_zero ≡ true)
@@ -231,8 +231,8 @@ close_now None reason e =
 abbrev pub link_closed : Reason → End → Effect End (List Note)
 link_closed reason e = if is_begun e then close_now e.shake.reason reason e else just e
 
--- the partner goes down: no flag is owed any more, and no copy goes on, also where the channel had a
--- reason to close before
+-- the partner goes down: no flag is owed any more, and no copy goes on, also where the channel had
+-- a reason to close before
 abbrev pub copies_over : Pulling → Pulling
 copies_over x = record x { counters = None; copied = []; run = 0 }
 
@@ -246,12 +246,12 @@ parted e =
 abbrev pub link_down : Reason → End → Effect End (List Note)
 link_down reason e = and_then (link_closed reason e) (λ x. just (parted x))
 
--- the epoch is over: the numbers that were asked for are to be told, and the end is fresh
+-- what is noted of an epoch that is over: its reason, and that each number that was asked for is
+-- over. The record has them at once, since another record may be begun before they are told
 abbrev pub over_note : Option Reason → List Note
 over_note None = []
 over_note (Some reason) = Over reason ∷ []
 
--- its record has them at once, since another record may be begun before they are told
 abbrev pub over_notes : End → List Note
 over_notes e = over_note e.shake.reason ++ map ToldOver e.sides.pending_notices
 
@@ -441,7 +441,7 @@ well_handled k e = just (kind_got k e)
 abbrev pub handled : Kind → End → Effect End (List Note)
 handled k e = if refused k e then kind_refused k e else well_handled k e
 
--- it waits for its argument
+-- a kind has its argument: the request, the reply or the code was loaded; other kinds need none
 abbrev pub has_argument : Kind → Shake → Bool
 has_argument OpenRequest x = is_some x.request
 has_argument OpenReply x = is_some x.reply
@@ -466,7 +466,7 @@ joined_notes false = []
 abbrev pub connection_noted : End → Effect End (List Note)
 connection_noted e = record { local = e; reason = None; notes = joined_notes (is_connected e) }
 
--- all of them; six kinds are the most there are
+-- all kinds that were taken are handled; six kinds are the most there are
 unfoldable pub settled : End → Effect End (List Note)
 settled e = and_then (settle 6 e) connection_noted
 

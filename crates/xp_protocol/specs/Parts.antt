@@ -49,11 +49,11 @@ IsRequestSize entries limit =
     (0 < entries) × (entries ≤ LINES) × (limit ≤ BODY_BYTES) × (entries * lines limit ≤ LINES)
 
 -- a partner of partition `part` among `count`, and a channel
-abbrev pub IsPeer : ℕ → ℕ → ℕ → ℕ → Type 0
-IsPeer part count q c = (q < count) × (q ≡ part → ⊥) × (c < CHANNELS)
+abbrev pub IsEndOf : ℕ → ℕ → ℕ → ℕ → Type 0
+IsEndOf part count q c = (q < count) × (q ≡ part → ⊥) × (c < CHANNELS)
 
 abbrev pub IsLawfulLink : ScenarioPart → Link → Type 0
-IsLawfulLink s l = IsPeer s.part s.count l.partner l.channel × IsRequestSize l.entries l.limit
+IsLawfulLink s l = IsEndOf s.part s.count l.partner l.channel × IsRequestSize l.entries l.limit
 
 abbrev pub AreLawfulLinks : ScenarioPart → List Link → Type 0
 AreLawfulLinks s [] = Unit {0}
@@ -62,15 +62,15 @@ AreLawfulLinks s (l ∷ ls) = IsLawfulLink s l × AreLawfulLinks s ls
 -- what the rules use of a lawful command: whom it names, and what it sends
 abbrev pub IsLawfulCommand : ScenarioPart → Command → Type 0
 IsLawfulCommand s (commands.Register q c entries limit) =
-    IsPeer s.part s.count q c × IsRequestSize entries limit
-IsLawfulCommand s (commands.Unregister q c) = IsPeer s.part s.count q c
-IsLawfulCommand s (commands.Connected q c) = IsPeer s.part s.count q c
-IsLawfulCommand s (commands.Closed q c) = IsPeer s.part s.count q c
+    IsEndOf s.part s.count q c × IsRequestSize entries limit
+IsLawfulCommand s (commands.Unregister q c) = IsEndOf s.part s.count q c
+IsLawfulCommand s (commands.Connected q c) = IsEndOf s.part s.count q c
+IsLawfulCommand s (commands.Closed q c) = IsEndOf s.part s.count q c
 IsLawfulCommand s (commands.Send q c payload wait notify) =
-    IsPeer s.part s.count q c × (length payload ≤ SEND_BYTES) × AreBytes payload
-IsLawfulCommand s (commands.Take q c wait) = IsPeer s.part s.count q c
-IsLawfulCommand s (commands.Release q c number) = IsPeer s.part s.count q c
-IsLawfulCommand s (commands.Drain q c) = IsPeer s.part s.count q c
+    IsEndOf s.part s.count q c × (length payload ≤ SEND_BYTES) × AreBytes payload
+IsLawfulCommand s (commands.Take q c wait) = IsEndOf s.part s.count q c
+IsLawfulCommand s (commands.Release q c number) = IsEndOf s.part s.count q c
+IsLawfulCommand s (commands.Drain q c) = IsEndOf s.part s.count q c
 IsLawfulCommand s x = ⊤
 
 abbrev pub AreLawfulCommands : ScenarioPart → List Command → Type 0

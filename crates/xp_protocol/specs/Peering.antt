@@ -59,8 +59,8 @@ with_reason reason p = record p {
 }
 
 -- what a step for a partner reads besides: the own number and version, the present turn, for how
--- many turns backing off lasts, whether the mask that was stored has the partner's bit, the stamp of
--- the boot, and in a boot whether the last one was read
+-- many turns backing off lasts, whether the mask that was stored has the partner's bit, the stamp
+-- of the boot, and in a boot whether the last one was read
 pub record Here : Type 0 where
   pub part : ℕ
   pub version : ℕ
@@ -314,7 +314,8 @@ try_contact stamp p =
     if p.engage.second && (p.engage.shown && not (is_some p.contact)) then contact_made stamp p
     else same_peer p
 
--- the partner's record: its magic, its session, its echo
+-- the partner's record: its magic, its session, its echo, the places of its words and the number of
+-- its channels
 abbrev pub first_magic : ℕ
 first_magic = FIRST
 

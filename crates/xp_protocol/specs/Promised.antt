@@ -216,8 +216,8 @@ pub record AreArguments (e g : End) (request reply code place : ℕ) : Type 0 wh
 
 -- an end in contact: the size of its epoch may be asked for, and is that of its registration as
 -- long as it doesn't close; once its open reply was sent a limit is agreed, and once its open
--- complete was sent both sides have it, with the entries that each end asked for; and once its close
--- reply was sent no copy of its channel goes on
+-- complete was sent both sides have it, with the entries that each end asked for; and once its
+-- close reply was sent no copy of its channel goes on
 pub record IsSettled (e : End) : Type 0 where
   pub size : e.shake.sent.open_request ≡ true →
       IsRequestSize (size_sent e).entries (size_sent e).limit
@@ -373,7 +373,7 @@ pub record Notices (s : Scenario) (h : List Event) : Type 0 where
   pub prompt : (p q c : ℕ) → IsLine s p q c → (how : NoticeKind) →
       notice_due how (end_of (state_at s h p) q c) ≡ None
 
-pub record KeepsPromises (s : Scenario) (h : List Event) : Type 0 where
+pub record KeepsPrefixes (s : Scenario) (h : List Event) : Type 0 where
   pub names : NamePrefix s h
   pub records : LinePrefix s h
 

@@ -7,7 +7,8 @@ use Rattle.xp_base.specs.declared.link.LinkState.TheVariants.{Idle, Opening, Con
 
 pub record Releasing : Type 0 where
   pub front : ℕ  -- all numbers below were released
-  pub released_from_front : List Bool  -- for each number that was taken, from the front on, whether it was released
+  -- for each number that was taken, from the front on, whether it was released
+  pub released_from_front : List Bool
 
 abbrev pub new_releasing : Releasing
 new_releasing = record { front = 0; released_from_front = [] }
@@ -19,7 +20,8 @@ is_unreleased (Some released) = not released
 
 abbrev pub is_held : ℕ → Releasing → Bool
 is_held number x =
-    not (nat_lt number x.front) && is_unreleased (slice_get x.released_from_front (number - x.front))
+    not (nat_lt number x.front)
+    && is_unreleased (slice_get x.released_from_front (number - x.front))
 
 -- the next message is taken
 abbrev pub message_held : Releasing → Releasing
@@ -33,7 +35,8 @@ fronted front (true ∷ more) = fronted (front + 1) more
 
 -- the message of a number is released
 abbrev pub message_released : ℕ → Releasing → Releasing
-message_released number x = fronted x.front (slice_set x.released_from_front (number - x.front) true)
+message_released number x =
+    fronted x.front (slice_set x.released_from_front (number - x.front) true)
 
 -- why a release is refused: there is no connection, or the message isn't held
 abbrev pub unless_held : Bool → Option ReleaseAnswer

@@ -23,7 +23,7 @@ use Rattle.xp_protocol.specs.declared.rule.OwnRule.{OwnRule}
 use Rattle.xp_protocol.specs.declared.rule.Rule.{Rule}
 use Rattle.xp_protocol.specs.declared.rule.Rule.TheVariants.{Link, Peer as ForPeer, Own}
 use Rattle.xp_script.specs.declared.part.ScenarioPart.{ScenarioPart}
-use Rattle.xp_protocol.specs.Parts.{IsPeer}
+use Rattle.xp_protocol.specs.Parts.{IsEndOf}
 use Rattle.xp_protocol.specs.Effects.{Effect, Copied, Row, Note}
 use Rattle.xp_protocol.specs.State.{State, End, Peer, PeerGoing, Beats, Going, Copies, Life, Up, Booting, Halted, Boot, Ready, end_of, peer_of, set_link, version_of}
 use Rattle.xp_protocol.specs.Linking.{link_can, link_row, link_effect, copy_failed}
@@ -32,7 +32,7 @@ use Rattle.xp_protocol.specs.Peering.{Here, is_flagged, peer_can, peer_row, peer
 -- a channel on which steps are permitted: its partner is in contact, and no reason to deactivate it
 -- stands
 pub record IsUsable (s : ScenarioPart) (st : State) (q c : ℕ) : Type 0 where
-  pub peer : IsPeer s.part s.count q c
+  pub peer : IsEndOf s.part s.count q c
   pub contact : IsSome (peer_of st q).contact
   pub free : (peer_of st q).engage.reason ≡ None
   pub ready : (peer_of st q).engage.area ≡ Ready

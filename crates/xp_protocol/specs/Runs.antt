@@ -91,7 +91,7 @@ abbrev pub state_after : ScenarioPart → State → List Turn → State
 state_after s st [] = st
 state_after s st (t ∷ ts) = state_after s (after_turn s st t) ts
 
--- what an end owes by itself: a store of get, or a control flag of its handshake
+-- what an end owes by itself: a store of get, a control flag of its handshake, or a message request
 abbrev pub owes : End → Bool
 owes e =
     (is_connected e && nat_lt e.sides.local_get e.sides.ack.front)

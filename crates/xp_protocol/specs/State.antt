@@ -297,7 +297,7 @@ new_sides own theirs =
       draining = false;
     }
 
--- the same of those that are over
+-- sides at which nothing was begun, for queues of the sizes of those that are over
 abbrev pub fresh_sides : Sides → Sides
 fresh_sides x =
     new_sides (record {
@@ -442,7 +442,7 @@ peer_of st q = peer_at st.peers q
 abbrev pub end_of : State → ℕ → ℕ → End
 end_of st q c = end_at st.peers q c
 
--- one end of a peer's channels is replaced
+-- one end of a partner's channels is replaced
 abbrev pub set_link : Peer → ℕ → End → Peer
 set_link p c x = record p { links = slice_set p.links c x }
 
@@ -497,7 +497,7 @@ abbrev pub link_mask : List Link → ℕ
 link_mask [] = 0
 link_mask (l ∷ ls) = bit_or (2 ^ l.partner) (link_mask ls)
 
--- as the own word says
+-- the stamp that the own word says at the opening
 abbrev pub opening_stamp : List Link → ℕ
 opening_stamp [] = 0
 opening_stamp (l ∷ ls) = 1

@@ -1,5 +1,5 @@
--- A step as an end wants it: its copy has no number yet, which is 0. A node puts the partition's
--- number of the copy in.
+-- A step as an end wants it: its copy has no number yet, which is 0. The step of the partition puts
+-- the partition's number of the copy in.
 use Rattle.std.specs.Prelude.{ℕ, if◌then◌else◌, Option, Some, None}
 use Rattle.xp_base.specs.declared.step.CopyMark.{CopyMark}
 use Rattle.xp_base.specs.declared.step.Wanted.{Wanted}

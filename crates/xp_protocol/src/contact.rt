@@ -13,7 +13,7 @@ pub struct Size {
 #[derive(Clone, Copy)]
 pub enum Look {
     Unseen,
-    /// A page of this layout, with its version.
+    /// A page of this layout, with its version, which is known.
     Good { version: u64 },
     Absent,
     BadVersion { word: u64 },

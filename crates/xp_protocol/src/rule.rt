@@ -1,5 +1,5 @@
-// The steps that a partition can make, by the machine that they belong to. Partners and channels
-// stand as plain numbers, whose ranges are part of the condition of each step.
+// The steps that a partition can make, by what they may change. Partners and channels stand as
+// plain numbers, whose ranges are part of the condition of each step.
 use xp_base::link::Kind;
 
 /// A step of the sending side of a channel.
@@ -91,7 +91,8 @@ pub enum PeerRule {
     OpenArea,
     /// Sets the own bit in the partner's engagement word.
     SetEngagementBit,
-    /// Loads the next word of the partner's record: its magic, its session, its echo.
+    /// Loads the next word of the partner's record: its magic, its session, its echo, the places of
+    /// its words and the number of its channels.
     ReadRecord,
     /// Stores the partner's session that was read.
     StoreEcho,

@@ -37,13 +37,18 @@ begun_side (Some refusal) wait x = x
 abbrev pub step_fed : SenderCounters → Pulling → PullRule → Answer → Effect Pulling (List PullNote)
 step_fed b x m (Word w) = pull_effect b x m w
 step_fed b x m Failed =
-    record { local = pull_failed (kind_of m) x; reason = Some (CopyError (kind_of m) 0); notes = [] }
+    record {
+      local = pull_failed (kind_of m) x;
+      reason = Some (CopyError (kind_of m) 0);
+      notes = [];
+    }
 
-abbrev pub fed_by : Option PullRule → SenderCounters → Pulling → Answer → Effect Pulling (List PullNote)
+abbrev pub fed_by : Option PullRule → SenderCounters → Pulling → Answer
+    → Effect Pulling (List PullNote)
 fed_by None b x a = record { local = x; reason = None; notes = [] }
 fed_by (Some m) b x a = step_fed b x m a
 
--- and the take with it, unless there is a reason to deactivate the partner
+-- the side after a step: its take is answered, unless there is a reason to deactivate the partner
 abbrev pub fed_side : Option Reason → Pulling → Pulling
 fed_side None x = answered x
 fed_side (Some reason) x = x

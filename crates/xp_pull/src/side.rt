@@ -67,7 +67,8 @@ impl PullSide {
 
     /// A copy of the counters is owed, as after a message request of the partner.
     pub fn pull(&mut self)
-        ensures { self.new ≡ record self.old { receiver = record self.old.receiver { owed = true } } }
+        ensures { self.new ≡
+            record self.old { receiver = record self.old.receiver { owed = true } } }
     {
         self.receiver.pull();
     }

@@ -11,8 +11,8 @@ use Rattle.xp_protocol.specs.Acts.{MayActs}
 use Rattle.xp_protocol.specs.Reached.{state_at}
 use Rattle.xp_protocol.specs.Promised.{IsLine, known_acted}
 
--- as long as the open complete of the epoch wasn't sent, no send is in progress and none was, no copy
--- goes on and nothing was copied; and it is sent after both open requests
+-- as long as the open complete of the epoch wasn't sent, no send is in progress and none was, no
+-- copy goes on and nothing was copied; and the open complete is sent after both open requests
 pub record IsAnew (e : End) : Type 0 where
   pub sending : e.shake.sent.open_complete ≡ false → e.sides.send
       ≡ new_sending e.sides.send.entries e.sides.send.limit
@@ -21,7 +21,7 @@ pub record IsAnew (e : End) : Type 0 where
   pub requested : e.shake.sent.open_complete ≡ true → (e.shake.sent.open_request ≡ true)
       × (e.shake.got.open_request ≡ true)
 
--- of each end in contact or not, after each turn and after the first acts of the next one
+-- each end, in contact or not, is anew after each turn and after the first acts of the next one
 abbrev pub SidesAnew : Scenario → List Event → Type 0
 SidesAnew s h =
     (p q c : ℕ) → IsLine s p q c → (acts : List Act) →

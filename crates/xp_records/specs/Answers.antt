@@ -1,5 +1,5 @@
--- The sends of a partition, each with its steps from its beginning to its answer, and the causes for
--- which a send is answered.
+-- The sends of a partition, each with its steps from its beginning to its answer, and the causes
+-- for which a send is answered.
 use Rattle.std.specs.Prelude.{◌≡◌, ℕ, ◌+◌, ◌-◌, ◌<◌, Bool, true, false, ◌&&◌, if◌then◌else◌, nat_eq, List, [], ◌∷◌, ◌++◌, slice_get, Option, Some, None}
 use Rattle.xp_base.specs.declared.answer.SendAnswer.{SendAnswer}
 use Rattle.xp_base.specs.declared.answer.SendAnswer.TheVariants.{Ok as SendOk, Disconnecting, NoSlot}

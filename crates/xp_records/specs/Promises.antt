@@ -9,7 +9,7 @@ use Rattle.xp_records.specs.Clean.{Clean}
 use Rattle.xp_records.specs.Names.{NamesOnce}
 use Rattle.xp_records.specs.Noticed.{DeliveredAcknowledged, NoticesRecorded}
 
--- of a scenario, a history, and the memory that it leaves
+-- what is promised of a scenario, a history, and the memory that the history leaves
 pub record Promises (s : Scenario) (h : List Event) (m : Memory) : Type 0 where
   -- in each connection, by its name, the messages taken at one end are a prefix of those that the
   -- other end's sends were told were accepted; and so are those of each record of either end
@@ -17,8 +17,8 @@ pub record Promises (s : Scenario) (h : List Event) (m : Memory) : Type 0 where
   pub recorded_as_accepted : LinePrefix s h
   -- a record is told by its name: each stands once among the records of an end
   pub names_once : NamesOnce s h
-  -- an entry is rewritten only after its message was acknowledged, and a number is acknowledged only
-  -- after all messages below it were taken and released
+  -- an entry is rewritten only after its message was acknowledged, and a number is acknowledged
+  -- only after all messages below it were taken and released
   pub entries_reused : Reuse s h
   -- no partition touches another's channel memory unless its own engagement bit stands there
   pub memory_guarded : Guarded s h
@@ -32,6 +32,6 @@ pub record Promises (s : Scenario) (h : List Event) (m : Memory) : Type 0 where
   pub delivered_acknowledged : DeliveredAcknowledged s h
   -- no magic, flag, argument, counter or entry that was read is refused
   pub nothing_refused : NothingRefused s h m
-  -- and so no reason of that kind, nor a version, stands anywhere, in no record and in no answer; and
+  -- no reason that refuses a word or a version stands anywhere, in no record and in no answer; and
   -- no partition halts
   pub clean : Clean s h

@@ -85,7 +85,7 @@ given_text answers.Idle = codes "ok"
 given_text answers.Offline = codes "ok"
 given_text (answers.Online answer) = online_text answer
 
--- the same, where the command may wait for its answer
+-- the text of a command's answer, where the command may wait for it
 abbrev pub answer_text : Option LogAnswer → List ℕ
 answer_text None = codes "unanswered"
 answer_text (Some answer) = given_text answer

@@ -15,8 +15,8 @@ connection_text r =
     ⧺ codes " own " ⧺ decimal r.own.stamp ⧺ codes "." ⧺ decimal r.own.count
     ⧺ codes " partner " ⧺ decimal r.theirs.stamp ⧺ codes "." ⧺ decimal r.theirs.count
 
--- what came of it: the messages accepted and taken, the last get, the messages whose delivery was
--- told, and those of which it was told that the connection ended first
+-- what came of a connection: the messages accepted and taken, the last get, the messages whose
+-- delivery was told, and those of which it was told that the connection ended first
 unfoldable pub counts_text : Recorded → List ℕ
 counts_text r =
     codes "accepted " ⧺ decimal (length r.accepted)

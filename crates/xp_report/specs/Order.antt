@@ -15,8 +15,8 @@ unfoldable pub in_order : {X : Type 0} → (X → X → Bool) → List X → Lis
 in_order first [] = []
 in_order first (x ∷ more) = placed first x (in_order first more)
 
--- by own session, partner session, channel and epoch. A session comes before another by its stamp,
--- and then by its count, and so does its word
+-- the order of records: by own session, partner session, channel and epoch. A session comes before
+-- another by its stamp, and then by its count, and so does its word
 unfoldable pub record_cmp : Recorded → Recorded → Ordering
 record_cmp a b =
     ordering_then (nat_cmp (session_word a.own) (session_word b.own))

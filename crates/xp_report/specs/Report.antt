@@ -41,8 +41,8 @@ partners_text n q zero = []
 partners_text n q (suc more) =
     records_text (as_printed (begun_with n q)) ⧺ partners_text n (q + 1) more
 
--- those of all connections: by partner, and by own session, partner session, channel and epoch;
--- where these are equal, in the order in which they were begun
+-- the lines of all connections: by partner, and by own session, partner session, channel and epoch;
+-- where these are equal, in the order in which the connections were begun
 abbrev pub links_text : NodeView → List ℕ
 links_text n = partners_text n 0 n.part.count
 

@@ -40,7 +40,7 @@ partners_totals n q zero = no_totals
 partners_totals n q (suc more) =
     plus (records_totals (begun_with n q)) (partners_totals n (q + 1) more)
 
--- what came of all its connections, and of all connections of some nodes
+-- what came of all connections of a node, and of some nodes
 abbrev pub node_totals : NodeView → Totals
 node_totals n = partners_totals n 0 n.part.count
 

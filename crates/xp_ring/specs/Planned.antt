@@ -7,8 +7,8 @@ use Rattle.xp_protocol.specs.declared.rule.RingRule.TheVariants.{ReadGet, WriteE
 use Rattle.xp_protocol.specs.Sending.{Sending, Send, words_each, ring_row}
 use Rattle.xp_protocol.specs.Wanting.{wanted_at}
 
--- it loads the partner's get while the queue looks full by the one that was loaded last, then
--- stores the words of its entry, and then put
+-- a send in progress loads the partner's get while the queue looks full by the get that was loaded
+-- last, then stores the words of its entry, and then put
 abbrev pub next_step : Sending → RingRule
 next_step x =
     if nat_le x.entries (x.put - x.remote_get) then ReadGet

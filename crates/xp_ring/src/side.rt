@@ -28,8 +28,12 @@ impl SendSide {
     /// A side without messages, for an own queue of this size.
     pub fn new(own: PartId, partner: PartId, channel: Channel, entries: u8, limit: u16) -> SendSide
         requires { IsRequestSize entries limit }
-        ensures { result ≡ record
-            { own = own; partner = partner; channel = channel; sender = new_sending entries limit } }
+        ensures { result ≡ record {
+          own = own;
+          partner = partner;
+          channel = channel;
+          sender = new_sending entries limit;
+        } }
     {
         SendSide {
             own,

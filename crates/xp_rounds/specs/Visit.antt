@@ -46,8 +46,8 @@ seek p k st [] used = record { rest = []; used = 0; turn = None }
 seek p k st (e ∷ es) used =
     pick (nat_lt used (p.quota e)) (p.ask k e used st) (e ∷ es) used (seek p k st es 0)
 
--- the same at a place that was come to just now, whose errands are given then, and at the place of
--- a visit
+-- the errand that asks for a turn at a place that was come to just now, whose errands are given
+-- then, and at the place of a visit
 abbrev pub seek_anew : {State Errand Rule : Type 0} → Plan State Errand Rule → Ring → State →
     Found Errand Rule
 seek_anew p r st = seek p r.at st (p.errands r.at st) 0

@@ -24,7 +24,7 @@ verb_of (commands.Idle turns) = verbs.Idle
 verb_of commands.Offline = verbs.Offline
 verb_of commands.Online = verbs.Online
 
--- how scenarios and reports spell it
+-- how scenarios and reports spell a command
 abbrev pub verb_text : Verb → List ℕ
 verb_text verbs.Register = codes "register"
 verb_text verbs.Unregister = codes "unregister"

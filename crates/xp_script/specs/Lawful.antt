@@ -28,7 +28,7 @@ use Rattle.xp_script.specs.Totals.{command_count, payload_bytes, turn_count, pla
 abbrev pub IsWord : ℕ → Type 0
 IsWord n = n < 2 ^ 64
 
--- each byte is one
+-- each number of the list is a byte
 abbrev pub AreBytes : List ℕ → Type 0
 AreBytes bytes = (i : ℕ) → slice_index bytes i < 2 ^ 8
 
@@ -115,17 +115,17 @@ pub record AreLawfulRestarts (count : ℕ) (restarts : List Restart) : Type 0 wh
 
 -- ---- commands of a script of partition `own` with this minor version, among `count` partitions
 
--- another partition
+-- q is another partition
 abbrev pub IsPeer : ℕ → ℕ → ℕ → Type 0
 IsPeer count own q = (q < count) × (q ≢ own)
 
--- another partition, and a channel
+-- q is another partition, and c a channel
 pub record IsEnd (count own q c : ℕ) : Type 0 where
   pub partner : q < count
   pub other : q ≢ own
   pub channel : c < CHANNELS
 
--- and one on which scripts send and take
+-- q is another partition, and c a channel on which scripts send and take
 pub record IsMessageEnd (count own q c : ℕ) : Type 0 where
   pub end : IsEnd count own q c
   pub message : c ≢ DEVICE_CHANNEL

@@ -78,7 +78,7 @@ pub enum LogAnswer {
     Release(ReleaseAnswer),
     Drain(DrainAnswer),
     Net(TransmitAnswer),
-    /// So many frames were handed up.
+    /// As many frames were handed up as the command waits for.
     Frames,
     Deactivate,
     Activate,
@@ -94,11 +94,11 @@ pub enum LogAnswer {
 /// A command that was begun.
 #[derive(Drop)]
 pub struct Entry {
-    /// The boot that began it, from 1.
+    /// The boot that began the command, from 1.
     pub boot: u8,
-    /// Its number in the script of that boot, from 1.
+    /// The command's number in the script of that boot, from 1.
     pub number: u32,
     pub verb: Verb,
-    /// Its answer, where it has one.
+    /// The command's answer, where it has one.
     pub answer: Option<LogAnswer>,
 }

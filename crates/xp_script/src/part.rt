@@ -74,11 +74,11 @@ pub struct ScenarioPart {
     pub links: Links,
     /// The faults of this partition.
     pub faults: Faults,
-    /// When it stops, where it does.
+    /// When the partition stops, where it does.
     pub stop: Option<Moment>,
-    /// When it restarts.
+    /// When the partition restarts.
     pub restarts: Moments,
-    /// Its scripts, one for each boot.
+    /// The scripts of the partition, one for each boot.
     pub scripts: Boots,
 }
 

@@ -14,14 +14,14 @@ pub struct Scenario {
     /// How many of its own turns a partition makes between two heartbeat checks of a partner: 0 for
     /// no checks, else four windows to 1,000,000,000.
     pub check: u64,
-    /// At most one for each partition.
+    /// The minor versions, at most one for each partition.
     pub minors: Minors,
-    /// At most one for each pair of partitions and channel.
+    /// The channels that open connected, at most one line for each pair of partitions and channel.
     pub warms: Warms,
     pub faults: Faults,
-    /// At most one for each partition.
+    /// The planned stops, at most one for each partition.
     pub stops: Stops,
-    /// At most 63 for each partition.
+    /// The planned restarts, at most 63 for each partition.
     pub restarts: Restarts,
     pub pokes: Pokes,
     /// The scripts of each partition, at most 64.

@@ -42,11 +42,11 @@ pub struct Fault {
 /// A moment in the life of a partition, counted over all its boots.
 #[derive(Clone, Copy)]
 pub enum Moment {
-    /// After its store of put of this number, from 1, over all channels. Each store of put accepts
-    /// a message; the zeros of an area that is prepared or of a channel that opens
+    /// After the partition's store of put of this number, from 1, over all channels. Each store of
+    /// put accepts a message; the zeros of an area that is prepared or of a channel that opens
     /// don't count.
     Put(u64),
-    /// When it has made so many turns.
+    /// When the partition has made so many turns.
     Turn(u64),
 }
 

@@ -176,7 +176,8 @@ impl Sides {
             self.new ≡ record self.old {
               sides = record self.old.sides {
                 send = f.local;
-                pending_notices = asked_more self.old.sides.send.put asks self.old.sides.pending_notices;
+                pending_notices =
+                    asked_more self.old.sides.send.put asks self.old.sides.pending_notices;
               };
             } }
     {
@@ -374,8 +375,10 @@ impl Sides {
     /// A copy of the counters is owed.
     pub fn owe_copy(&mut self)
         requires ready { self.old.ready ≡ true }
-        ensures { self.new ≡ record self.old
-            { sides = record self.old.sides { pull = record self.old.sides.pull { owed = true } } } }
+        ensures { self.new ≡ record self.old {
+          sides = record self.old.sides
+              { pull = record self.old.sides.pull { owed = true } };
+        } }
     {
         match &mut self.there {
             Some(there) => there.pull.pull(),
@@ -461,7 +464,8 @@ impl Sides {
           sides = record self.old.sides {
             ack = message_released number self.old.sides.ack;
             releasing = not
-                (nat_eq self.old.sides.ack.front (message_released number self.old.sides.ack).front);
+                (nat_eq self.old.sides.ack.front
+                (message_released number self.old.sides.ack).front);
           };
         } }
     {
@@ -544,7 +548,8 @@ impl Sides {
         ensures ready { IsSome result → self.old.ready ≡ true }
         ensures sides { let left = numbers_left (first_number self.old.sides.pending_notices)
             self.old.sides.pending_notices in
-            self.new ≡ record self.old { sides = record self.old.sides { pending_notices = left } } }
+            self.new ≡ record self.old
+            { sides = record self.old.sides { pending_notices = left } } }
     {
         match &mut self.there {
             Some(there) => {
@@ -564,7 +569,8 @@ impl Sides {
         ensures sides { let left = numbers_left
             (below self.old.sides.send.remote_get self.old.sides.pending_notices)
             self.old.sides.pending_notices in
-            self.new ≡ record self.old { sides = record self.old.sides { pending_notices = left } } }
+            self.new ≡ record self.old
+            { sides = record self.old.sides { pending_notices = left } } }
     {
         match &mut self.there {
             Some(there) => {
@@ -589,7 +595,7 @@ impl Sides {
 }
 
 impl Sides {
-    /// All numbers below it were released.
+    /// The front: all numbers below the front were released.
     pub fn front(&self) -> u64
         ensures { result ≡ self.now.sides.ack.front }
     {

@@ -34,7 +34,7 @@ pub record MayLink (c : ℕ) (m : LinkRule) (mark : Option CopyMark) (a : Answer
   pub room : HasNotes 1 (channel_of x c)
   pub asks : MayStep (channel_of x c).end m
 
--- and what becomes of the partner
+-- what becomes of the partner by the step of a rule at one of its ends
 pub record IsLinkStepped (c : ℕ) (m : LinkRule) (mark : Option CopyMark) (a : Answer)
     (x y : Partner) : Type 0 where
   pub names : AreNamed x.standing.own x.standing.partner x.channels
@@ -43,7 +43,7 @@ pub record IsLinkStepped (c : ℕ) (m : LinkRule) (mark : Option CopyMark) (a : 
       ≡ roomed (kept (answered (channel_of x c) m a) (channel_of x c)) (channel_of y c)
   pub left : (notes : ℕ) → HaveNotes (notes + 1) x → HaveNotesLeft notes y
 
--- the same of one for a partner
+-- what the step of a rule for a partner asks, and what becomes of the partner by it
 pub record MayFollow (m : PeerRule) (x : Partner) : Type 0 where
   pub storable : IsStorable x.standing m
   pub flags : m ≡ TakeFlags → MayTakeFlags x

@@ -8,7 +8,8 @@ abbrev pub counted_by : Option CopyMark → Copies → Copies
 counted_by None x = x
 counted_by (Some mark) x = if nat_eq mark.word 0 then one_more mark.kind x else x
 
--- the number of a copy: of a new one where its first word is loaded, and else of the one that goes on
+-- the number of a copy: of a new one where its first word is loaded, and else of the one that goes
+-- on
 abbrev pub number_by : CopyMark → ℕ → Copies → ℕ
 number_by mark going x = if nat_eq mark.word 0 then begun_of mark.kind x + 1 else going
 

@@ -21,14 +21,14 @@ pub record IsTold (word : OwnWord) (q : ℕ) (x y : Partner) : Type 0 where
   pub made : y ≡ rooms_of (told_by word q x) y
   pub left : KeepLeft x.channels y.channels
 
--- those below a number were told, and the others are as before
+-- the partners below a number were told a word, and the others are as before
 pub record AreToldBelow (n : ℕ) (word : OwnWord) (x y : Partners) : Type 0 where
   pub count : length y.list ≡ length x.list
   pub told : (q : ℕ) → q < n → IsTold word q (partner_at x.list q) (partner_at y.list q)
   pub rest : (q : ℕ) → n ≤ q → partner_at y.list q ≡ partner_at x.list q
   pub untouched : LeavesUntouched x y
 
--- all were
+-- all partners were told a word
 pub record AreTold (word : OwnWord) (x y : Partners) : Type 0 where
   pub count : length y.list ≡ length x.list
   pub told : (q : ℕ) → q < length x.list

@@ -59,7 +59,7 @@ pub fn step(
     step_at(&mut keeping.partners, number, channel, rule, mark, answer);
 }
 
-// What it makes of the partners.
+// What the step of a rule at an end makes of the partners.
 #[tactic(auto, using(crate::proofs::Changing::changing))]
 fn step_at(
     partners: &mut Partners,
@@ -80,7 +80,7 @@ fn step_at(
     step_of(partner, channel, rule, mark, answer);
 }
 
-// What it makes of the partner.
+// What the step of a rule at an end makes of its partner.
 #[tactic(auto, using(crate::proofs::Changing::naming))]
 fn step_of(
     partner: &mut Partner,

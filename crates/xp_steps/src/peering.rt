@@ -56,7 +56,7 @@ pub fn step(
     step_for(&mut keeping.partners, number, rule, turn, mark, answer);
 }
 
-/// What it makes of the partners.
+/// What the step of a rule for a partner makes of the partners.
 #[tactic(auto, using(crate::proofs::Changing::changing))]
 pub fn step_for(
     partners: &mut Partners,
@@ -77,7 +77,7 @@ pub fn step_for(
     step_of(partner, rule, turn, mark, answer);
 }
 
-// What it makes of the partner.
+// What the step of a rule for a partner makes of that partner.
 fn step_of(partner: &mut Partner, rule: PeerRule, turn: u64, mark: Option<CopyMark>, answer: Answer)
     requires { MayFollow rule partner.old }
     ensures { IsPeerStepped turn rule mark answer partner.old partner.new }

@@ -39,7 +39,7 @@ pub fn step(keeping: &mut Keeping, rule: Rule, mark: Option<CopyMark>, answer: A
     follow(keeping, rule, mark, answer);
 }
 
-// The same by what the rule may change.
+// The step of a rule has answered: its end, its partner or its partition takes the answer.
 #[tactic(auto, using(crate::proofs::Stepped::following))]
 fn follow(keeping: &mut Keeping, rule: Rule, mark: Option<CopyMark>, answer: Answer)
     requires can { CanStep keeping.old rule }

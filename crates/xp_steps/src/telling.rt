@@ -36,7 +36,7 @@ pub fn tell_all(partners: &mut Partners, word: OwnWord)
     }
 }
 
-// One of them is.
+// One partner is told a word of the partition's own memory.
 #[tactic(auto, using(crate::proofs::Changing::changing))]
 fn tell(partners: &mut Partners, number: PartId, word: OwnWord)
     requires number { number < length partners.old.list }
@@ -50,7 +50,7 @@ fn tell(partners: &mut Partners, number: PartId, word: OwnWord)
     hear(partner, number, word);
 }
 
-// What it makes of one.
+// What the word makes of the partner that is told it.
 #[tactic(auto, using(crate::proofs::Told::hearing))]
 fn hear(partner: &mut Partner, number: PartId, word: OwnWord)
     requires { partner.old.standing.partner ≡ number }

@@ -12,7 +12,8 @@ use xp_partition::keeping::Keeping;
 use xp_partition::life::Life;
 use xp_protocol::rule::Rule;
 
-/// The step of a rule that can be followed: its word, what it does with it, and the mark of its copy.
+/// The step of a rule that can be followed: its word, what it does with it, and the mark of its
+/// copy.
 #[tactic(auto, using(crate::proofs::Wants::wanting))]
 pub fn wanted(keeping: &Keeping, rule: Rule) -> Wanted
     requires can { CanStep keeping.now rule }
@@ -26,7 +27,7 @@ pub fn wanted(keeping: &Keeping, rule: Rule) -> Wanted
     }
 }
 
-// The same after the boot.
+// The step of a rule that can be followed, after the boot.
 #[tactic(auto, using(crate::proofs::Wants::wanting))]
 fn wanted_up(keeping: &Keeping, rule: Rule) -> Wanted
     requires can { CanStep keeping.now rule }

@@ -1,6 +1,6 @@
 //! Tests of the language: each kind of line wrong in each way, pairs of faults, the first of two
-//! causes, changed texts, texts that are printed, the worked scenarios through the top call, the line
-//! of a summary.
+//! causes, changed texts, texts that are printed, the worked scenarios through the top
+//! call, the line of a summary.
 #![tactic(auto)]
 
 #[cfg(test)]

@@ -1,5 +1,5 @@
-// Every kind of line, wrong in each way: cut short, with a word too much, in another section, and with each of its words
-// wrong.
+// Every kind of line, wrong in each way: cut short, with a word too much, in another section, and
+// with each of its words wrong.
 use std::alloc::{AllocError, Global};
 use std::process::Abort;
 use std::test::Fail;

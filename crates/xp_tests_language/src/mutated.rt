@@ -1,5 +1,5 @@
-// Texts that are changed here and there: each is read, or has its first fault at a place of the text; and what is read is
-// written and read back.
+// Texts that are changed here and there: each is read, or has its first fault at a place of the
+// text; and what is read is written and read back.
 ghost use Rattle.std.specs.Prelude.{◌<◌};
 ghost use Rattle.xp_script.specs.Lawful.{IsLawful};
 
@@ -11,7 +11,7 @@ use xp_scenario::fault::ScenarioFault;
 use xp_scenario::text::parse;
 use xp_script::scenario::Scenario;
 
-/// How many texts are tried.
+/// How many texts are changed, once and again: twice as many are tried.
 const TEXTS: u32 = 2_000;
 
 const SEEDS: [&[u8]; 4] = [

@@ -1,5 +1,5 @@
-// Two faults in one text: the first one in the order of the text is told, and a line that isn't right before too much of
-// something.
+// Two faults in one text: the first one in the order of the text is told, and a line that isn't
+// right before too much of something.
 use std::alloc::{AllocError, Global};
 use std::test::Fail;
 use xp_forms::fault::LineCause;

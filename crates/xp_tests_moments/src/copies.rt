@@ -5,10 +5,10 @@ use std::test::Fail;
 /// A channel of two entries that opens connected.
 const JOINED: &str = "warm 0 1 0 entries 2 limit 16\n";
 
-/// The one puts two messages, and has ended before the other looks.
+/// Partition 0 puts two messages, and has ended before partition 1 looks.
 const ENDED: &str = "turns 0 2048\nturns 1 8192\n";
 
-/// The other copies both messages in one run of 32 words.
+/// Partition 1 copies both messages in one run of 32 words.
 const RUN: Frame = Frame {
     settings: JOINED,
     scripts: "script 0
@@ -20,8 +20,8 @@ take 0 0
     schedule: ENDED,
 };
 
-/// The other takes when two windows are over: in the first it has looked at its partner's page, and in the second it has deactivated
-/// the partner where that failed.
+/// Partition 1 takes when two windows are over: in the first it has looked at its partner's page,
+/// and in the second it has deactivated the partner where that failed.
 const LATE: Frame = Frame {
     settings: JOINED,
     scripts: "script 0
@@ -34,7 +34,7 @@ take 0 0
     schedule: ENDED,
 };
 
-/// The one puts three messages into a queue of two, so its third send loads get.
+/// Partition 0 puts three messages into a queue of two, so its third send loads get.
 const FULL: Frame = Frame {
     settings: JOINED,
     scripts: "script 0
@@ -45,7 +45,8 @@ send 1 0 03
     schedule: "turns 0 8192\n",
 };
 
-/// Scenarios, kinds of copies, how many loads one has, and what the take answers where one of them fails.
+/// Scenarios, kinds of copies, how many loads one has, and what the take answers where one of them
+/// fails.
 const KINDS: [(Frame, &str, u64, &str); 3] = [
     (
         LATE,
@@ -79,7 +80,8 @@ fn untaken(answer: &'static str) -> [&'static str; 6] {
     ]
 }
 
-/// Whichever load of a copy fails: nothing of it is known, its partner is deactivated for it, and the partner, which has ended, stays.
+/// Whichever load of a copy fails: nothing of it is known, its partner is deactivated for it, and
+/// the partner, which has ended, stays.
 #[test]
 fn fails_at_each_load(rt: HostRuntime) -> Result<(), Fail> {
     for (frame, kind, loads, answer) in KINDS {

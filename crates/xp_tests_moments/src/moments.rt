@@ -31,16 +31,17 @@ const WARM: Frame = Frame {
     schedule: "rounds 100\n",
 };
 
-/// The same messages, with the turns that they need.
+/// Three messages over a channel that opens connected, with the turns that they need.
 const WHOLE: Frame = Frame {
     settings: JOINED,
     scripts: MESSAGES,
     schedule: "rounds 400\n",
 };
 
-/// The same between partitions that boot first. A partition makes 64 steps at least before it asks for a channel: 6 to boot, 36 to
-/// see its memory free, prepare it and open it, 5 to look at it, 2 to show its engagement, 12 to come into contact by two copies of the
-/// partner's record, and 3 before its flag. So one that has made fewer turns has opened no channel.
+/// A message between partitions that boot first. A partition makes 64 steps at least before it asks
+/// for a channel: 6 to boot, 36 to see its memory free, prepare it and open it, 5 to look at it, 2
+/// to show its engagement, 12 to come into contact by two copies of the partner's record, and 3
+/// before its flag. So a partition that has made fewer turns has opened no channel.
 const COLD: Frame = Frame {
     settings: "",
     scripts: "script 0
@@ -84,7 +85,8 @@ fn stops_at_each_of_its_first_turns(rt: HostRuntime) -> Result<(), Fail> {
     Ok(())
 }
 
-/// A second boot has no script, so it ends before its first step; what stood in the words stays, and the partner goes on.
+/// A second boot has no script, so it ends before its first step; what stood in the words stays,
+/// and the partner goes on.
 #[test]
 fn boots_again_at_each_of_its_first_turns(rt: HostRuntime) -> Result<(), Fail> {
     let again = [
@@ -191,8 +193,9 @@ idle 4
     schedule: "rounds 300\n",
 };
 
-/// Lines of moments, and what comes of them. A boot takes six steps, and nothing is begun before its last one; moments of one turn count
-/// once, a stop before a restart; and a partition that has ended comes to no moment.
+/// Lines of moments, and what comes of them. A boot takes six steps, and nothing is begun before
+/// its last one; moments of one turn count once, a stop before a restart; and a partition that has
+/// ended comes to no moment.
 const PLANS: [(&str, &[&str], &[&str]); 7] = [
     (
         "",

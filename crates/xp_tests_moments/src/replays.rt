@@ -10,7 +10,8 @@ use xp_tool::words::Word;
 use xp_tool::{WholeSink, WholeSource};
 use xp_world::world::World;
 
-/// A scenario of two partitions: settings, behind which lines of its own stand, scripts, and the lines of the schedule.
+/// A scenario of two partitions: settings, behind which lines of its own stand, scripts, and
+/// the lines of the schedule.
 #[derive(Clone, Copy)]
 pub struct Frame {
     pub settings: &'static str,

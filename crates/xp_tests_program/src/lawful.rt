@@ -1,4 +1,5 @@
-// Which scenarios of three partitions are lawful, and which the rules can run: a setting, a command or a line of the schedule at a time.
+// Which scenarios of three partitions are lawful, and which the rules can run: a setting, a command
+// or a line of the schedule at a time.
 use crate::tables::{Joined, scenario};
 use std::alloc::{AllocError, Global};
 use std::process::Abort;

@@ -1,4 +1,5 @@
-//! Tests of the program's layers: scenarios and their texts, partitions and their world, the report and the top call.
+//! Tests of the program's layers: scenarios and their texts, partitions and their world, the
+//! report and the top call.
 #![tactic(auto)]
 
 #[cfg(test)]

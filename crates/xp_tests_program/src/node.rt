@@ -1,4 +1,5 @@
-// What a node tells of its turns: of a first turn by itself, and of both partitions of a message after the replay.
+// What a node tells of its turns: of a first turn by itself, and of both partitions of a
+// message after the replay.
 ghost use Rattle.std.specs.Prelude.{◌≡◌};
 ghost use Rattle.xp_protocol.specs.Runs.{is_failed};
 ghost use Rattle.xp_protocol.specs.Parts.{fails_at};
@@ -51,7 +52,8 @@ fn expect_turns(rt: &impl Abort, node: &Node, steps: (u64, u64), entries: usize)
     assert_eq!(rt; node.log().len(), entries);
 }
 
-/// The sender stores 16 words and put; the receiver stores get. Each sets the other's message request once.
+/// The sender stores 16 words and put; the receiver stores get. Each sets the other's message
+/// request once.
 #[test]
 fn tells_of_its_turns(rt: HostRuntime) -> Result<(), Fail> {
     let scenario = one_message(&rt, rt.alloc())?;
@@ -65,7 +67,8 @@ fn tells_of_its_turns(rt: HostRuntime) -> Result<(), Fail> {
     Ok(())
 }
 
-/// The answer of a step that is wanted: a load that is planned to fail fails, and each other word is 0.
+/// The answer of a step that is wanted: a load that is planned to fail fails, and each other word
+/// is 0.
 fn answer_of(node: &Node, wanted: Wanted) -> Answer
     ensures { is_failed result ≡ fails_at node.now.part wanted.mark }
 {

@@ -307,7 +307,8 @@ fn reasons(rt: HostRuntime) -> Result<(), Fail> {
     expect_log(&rt, rt.alloc(), &log, wanted)
 }
 
-/// What the network device answers: the frame was sent to some partners, was dropped, or found no buffer.
+/// What the network device answers: the frame was sent to some partners, was dropped, or found no
+/// buffer.
 const TRANSMITS: [TransmitAnswer; 8] = [
     TransmitAnswer::Queued { to: 1 },
     TransmitAnswer::Queued { to: 0b1010_0110 },
@@ -382,7 +383,8 @@ fn ongoing(alloc: Global) -> Result<Record, AllocError> {
     Ok(connection)
 }
 
-/// A connection that ended: one message was told as delivered, and one that the connection ended first.
+/// A connection that ended: one message was told as delivered, and one that the
+/// connection ended first.
 fn ended(alloc: Global) -> Result<Record, AllocError> {
     let mut connection = Record::blank(alloc, PartId::known(2), Channel::known(0));
     connection.begin(4, session(5, 6), session(7, 8));
@@ -438,8 +440,8 @@ fn records(rt: HostRuntime) -> Result<(), Fail> {
     Ok(())
 }
 
-/// A connection that was begun and ended: its channel, its epoch, the stamp and the count of its own
-/// session and of its partner's, and the code that its partner closed it with.
+/// A connection that was begun and ended: its channel, its epoch, the stamp and the count of its
+/// own session and of its partner's, and the code that its partner closed it with.
 type Past = (u8, u64, (u32, u32), (u32, u32), u8);
 
 /// Connections to a partner as they lie in a node: by channel, and for each channel as they were

@@ -16,7 +16,8 @@ pub enum Line {
     Release(u8, u8, u64),
 }
 
-/// A channel that opens connected: its two partitions, the channel, and how many messages a queue holds. Payloads have at most 112 bytes.
+/// A channel that opens connected: its two partitions, the channel, and how many messages a queue
+/// holds. Payloads have at most 112 bytes.
 #[derive(Clone, Copy)]
 pub struct Joined(pub u8, pub u8, pub u8, pub u8);
 

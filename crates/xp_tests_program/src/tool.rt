@@ -1,4 +1,5 @@
-// The top call: faults of the source and of the sink, words that are no command, input that is refused, and the lines of the statuses.
+// The top call: faults of the source and of the sink, words that are no command, input that is
+// refused, and the lines of the statuses.
 use std::alloc::{AllocError, Global};
 use std::process::Abort;
 use std::test::Fail;
@@ -122,7 +123,8 @@ fn silent_status(alloc: Global, words: &[Word], text: Vec<u8>) -> Option<Status>
     }
 }
 
-/// Words that are no command: other words, flags, commands that aren't there yet, and more words than one.
+/// Words that are no command: other words, flags, commands that aren't there yet, and more words
+/// than one.
 const NO_COMMANDS: [&[&str]; 33] = [
     &[],
     &[""],

@@ -1,4 +1,5 @@
-// Three partitions of which one sends a message to another one: the words that it leaves, and a load that fails.
+// Three partitions of which one sends a message to another one: the words that it leaves, and a
+// load that fails.
 use crate::parts::word_at;
 use crate::tables::{Joined, Line, scenario};
 use std::alloc::{AllocError, Global};
@@ -15,8 +16,9 @@ use xp_script::schedule::{Plan, Schedule};
 use xp_script::setting::Fault;
 use xp_world::world::World;
 
-/// Partitions 0 and 1 are joined on channel 0, and 2 and 1 on channel 3. Partition 0 sends two bytes, which partition 1 takes and releases.
-/// A load of this partition fails; there are 100 rounds in three lines.
+/// Partitions 0 and 1 are joined on channel 0, and 2 and 1 on channel 3. Partition 0 sends
+/// two bytes, which partition 1 takes and releases. A load of this partition fails; there are
+/// 100 rounds in three lines.
 fn three(rt: &impl Abort, alloc: Global, part: u8, kind: CopyKind) -> Result<Scenario, AllocError> {
     let scripts: [&[Line]; 3] = [
         &[Line::Send(1, 0, b"hi")],
@@ -55,7 +57,8 @@ fn expect_counters(rt: &impl Abort, words: &Words) {
     }
 }
 
-/// Partition 1 has taken the request that a message was put; partition 0 had ended when it was told of the get.
+/// Partition 1 has taken the request that a message was put; partition 0 had ended when
+/// it was told of the get.
 fn expect_flags(rt: &impl Abort, words: &Words) {
     for (part, partner, word) in [(1u8, 0u8, 0u64), (0, 1, 32), (1, 2, 0)] {
         let place = flag_word(PartId::known(partner));

@@ -6,9 +6,9 @@ ghost use Rattle.xp_text.specs.Numbers.{is_digit, value_from, digits_of, Reads};
 /// What a word says as a number.
 #[derive(Clone, Copy)]
 pub enum Digits {
-    /// It has other bytes than digits.
+    /// The word has other bytes than digits.
     Other,
-    /// Its number has more than 64 bits.
+    /// The word's number has more than 64 bits.
     TooGreat,
     Number(u64),
 }

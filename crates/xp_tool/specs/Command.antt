@@ -1,4 +1,5 @@
--- What each command of the program means. A new command adds a case to each definition of this page, and changes no clause of the top call.
+-- What each command of the program means. A new command adds a case to each definition of this
+-- page, and changes no clause of the top call.
 use Rattle.std.specs.Prelude.{◌≡◌, ℕ, ◌⊎◌, List, [], Bool, true, false, not, Option, Some, None, Ok, Err}
 use Rattle.xp_dump.specs.Grammar.{dump_bytes, IsDump, IsPast, IsCut}
 use Rattle.xp_dump.specs.Grammar.{IsRefused as HasBadWord}
@@ -128,35 +129,35 @@ IsRefused Decode input fault = IsNoDump input fault
 IsRefused (Gen n) input fault = ⊥
 IsRefused (Big n) input fault = IsNotBuilt (generated n) fault
 
--- this is a world that the input's scenario leads to
+-- the product is a world that the input's scenario leads to
 abbrev pub IsReplay : List ℕ → Product → Type 0
 IsReplay input (product.Replayed world) = Replays input world
 IsReplay input (product.Ran world) = ⊥
 IsReplay input (product.Told words) = ⊥
 IsReplay input (product.Generated scenario) = ⊥
 
--- this is a world that the input's partitions leave as threads
+-- the product is a world that the input's partitions leave as threads
 abbrev pub IsRun : List ℕ → Product → Type 0
 IsRun input (product.Replayed world) = ⊥
 IsRun input (product.Ran world) = Runs input world
 IsRun input (product.Told words) = ⊥
 IsRun input (product.Generated scenario) = ⊥
 
--- these are the words that the input tells as a dump
+-- the product is the words that the input tells as a dump
 abbrev pub IsTold : List ℕ → Product → Type 0
 IsTold input (product.Replayed world) = ⊥
 IsTold input (product.Ran world) = ⊥
 IsTold input (product.Told words) = IsDump input words
 IsTold input (product.Generated scenario) = ⊥
 
--- this is the scenario of the number
+-- the product is the scenario of the number
 abbrev pub IsGenerated : ℕ → Product → Type 0
 IsGenerated n (product.Replayed world) = ⊥
 IsGenerated n (product.Ran world) = ⊥
 IsGenerated n (product.Told words) = ⊥
 IsGenerated n (product.Generated scenario) = scenario ≡ generated n
 
--- this is a world that the scenario of the number leads to
+-- the product is a world that the scenario of the number leads to
 abbrev pub IsGeneratedReplay : ℕ → Product → Type 0
 IsGeneratedReplay n (product.Replayed world) = Leads (generated n) world
 IsGeneratedReplay n (product.Ran world) = ⊥
@@ -172,7 +173,7 @@ Does Decode input made = IsTold input made
 Does (Gen n) input made = IsGenerated n made
 Does (Big n) input made = IsGeneratedReplay n made
 
--- the text that the command writes of it; none of what another command makes
+-- the text that the command writes of its product, and none of what another command makes
 abbrev pub text_of : ToolCommand → Product → List ℕ
 text_of Replay (product.Replayed world) = report_of world.nodes.items
 text_of Run (product.Ran world) = report_of world.nodes.items
@@ -182,7 +183,7 @@ text_of (Gen n) (product.Generated scenario) = printed scenario
 text_of (Big n) (product.Replayed world) = summary_of n world.nodes.items
 text_of command made = []
 
--- the world that is left of it
+-- the world that is left of a product
 abbrev pub end_of : Product → Option World
 end_of (product.Replayed world) = Some world
 end_of (product.Ran world) = Some world

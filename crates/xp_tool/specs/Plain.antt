@@ -37,7 +37,7 @@ pub record Ran (command : ToolCommand) (left left' : Option (List ℕ)) (made : 
   pub read : Reads command left left' input
   pub done : Does command input made
 
--- it was done, all of its text was written, and `end` is the world that is left
+-- the command was done, all of its text was written, and `end` is the world that is left
 pub record Headline (command : ToolCommand) (left left' held held' : Option (List ℕ))
     (end : Option World) : Type 0 where
   pub made : Product
@@ -45,7 +45,7 @@ pub record Headline (command : ToolCommand) (left left' held held' : Option (Lis
   pub written : Appends held held' (text_of command made)
   pub is : end ≡ end_of made
 
--- it was done, a front of its text was written, and `end` is the world that is left
+-- the command was done, a front of its text was written, and `end` is the world that is left
 pub record Cut (command : ToolCommand) (left left' held held' : Option (List ℕ))
     (end : Option World) : Type 0 where
   pub made : Product
@@ -54,7 +54,7 @@ pub record Cut (command : ToolCommand) (left left' held held' : Option (List ℕ
   pub written : Appends held held' (take count (text_of command made))
   pub is : end ≡ end_of made
 
--- it was done, and a front of its text was written
+-- the command was done, and a front of its text was written
 abbrev pub WritesFront : ToolCommand → Option (List ℕ) → Option (List ℕ) → Option (List ℕ)
     → Option (List ℕ) → Type 0
 WritesFront command left left' held held' =

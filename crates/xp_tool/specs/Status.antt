@@ -21,7 +21,8 @@ code_of NoMemory = 7
 
 unfoldable pub input_line_of : InputFault → List ℕ
 input_line_of (BadLine line column cause) =
-    codes "xpsim: line " ⧺ decimal line ⧺ codes " column " ⧺ decimal column ⧺ codes ": " ⧺ cause_text cause
+    codes "xpsim: line " ⧺ decimal line ⧺ codes " column " ⧺ decimal column ⧺ codes ": "
+    ⧺ cause_text cause
 input_line_of (TooMany what limit) =
     codes "xpsim: too many " ⧺ what_text what ⧺ codes ", limit " ⧺ decimal limit
 input_line_of Unbuilt = codes "xpsim: not built"

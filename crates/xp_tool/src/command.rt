@@ -25,7 +25,7 @@ pub const SCENARIO_LIMIT: usize = 1_048_576;
 pub const DUMP_LIMIT: usize = 33_554_432;
 
 impl ToolCommand {
-    /// Whether it needs no threads, so that `plain` does it.
+    /// Whether the command needs no threads, so that `plain` does it.
     pub fn is_plain(&self) -> bool
         ensures { result ≡ is_plain self.now }
     {

@@ -14,8 +14,8 @@ use xp_dump::{DumpFault, Reader};
 use xp_outside::source::{ReadError, Source, feed_all, read_all};
 use xp_outside::taker::Taker;
 
-// Takes an input as a dump. Behind its first fault it takes all and keeps nothing. Contracts see how
-// far the reader is.
+// Takes an input as a dump. Behind its first fault it takes all and keeps nothing. Contracts
+// see how far the reader is.
 #[derive(Drop)]
 struct DumpInput {
     reader: Reader,
@@ -63,8 +63,8 @@ pub fn read_text<S: Source>(alloc: Global, source: &mut S) -> Result<Vec<u8>, St
     }
 }
 
-/// The words that a source tells as a dump, where its bytes are no more than a dump's limit. They are
-/// read to the end of the source also where the first of them are wrong, and no byte is kept.
+/// The words that a source tells as a dump, where its bytes are no more than a dump's limit. They
+/// are read to the end of the source also where the first of them are wrong, and no byte is kept.
 pub fn read_dump<S: Source>(alloc: Global, source: &mut S) -> Result<Words, Status>
     requires { S.faults source.old < 2 ^ 64 - 1 }
     ensures told { IfOk result (λ words. (input : List ℕ)

@@ -44,7 +44,7 @@ pub enum Product {
 }
 
 impl Product {
-    /// The world that is left of it.
+    /// The world that is left of the product.
     pub fn into_end(self) -> Option<World>
         ensures { result ≡ end_of self }
     {

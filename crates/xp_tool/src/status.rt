@@ -23,7 +23,7 @@ pub enum InputFault {
         what: What,
         limit: u64,
     },
-    /// It spells a scenario that the rules of today can't run.
+    /// The input spells a scenario that the rules of today can't run.
     Unbuilt,
     /// A word of a dump isn't allowed, at the offset of its first byte; or bytes are missing, at
     /// the offset of the end.

@@ -12,7 +12,7 @@ use Rattle.xp_rounds.specs.Ring.{IsRing}
 use Rattle.xp_rounds.specs.Visit.{Visit, planned, Follows}
 use Rattle.xp_rounds.proofs.Visits.{Fits}
 use Rattle.xp_rounds.proofs.Spots.{Spot, spot}
-use Rattle.xp_protocol.specs.Parts.{IsLawfulPart, IsPeer}
+use Rattle.xp_protocol.specs.Parts.{IsLawfulPart, IsEndOf}
 use Rattle.xp_protocol.specs.State.{State, Life, Area, Ready, peer_of}
 use Rattle.xp_protocol.specs.Peering.{is_ready}
 use Rattle.xp_protocol.specs.Rules.{IsPartner}
@@ -64,7 +64,7 @@ run_next boot C s st t ts r = record { runs = r.runs.1; up = r.up.2; holds = r.h
 pub placed : (s : ScenarioPart) (q : ℕ) → IsLawfulPart s → IsPartner s q → Spot s.part s.count q
 placed s q l p = spot s.part s.count q l.part p.low p.other
 
-pub peer_placed : (s : ScenarioPart) (q c : ℕ) → IsLawfulPart s → IsPeer s.part s.count q c → Spot s.part s.count q
+pub peer_placed : (s : ScenarioPart) (q c : ℕ) → IsLawfulPart s → IsEndOf s.part s.count q c → Spot s.part s.count q
 peer_placed s q c l p = spot s.part s.count q l.part p.0 p.1
 
 ready_by : (a : Area) → a ≡ Ready → is_ready a ≡ true

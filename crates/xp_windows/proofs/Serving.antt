@@ -13,7 +13,7 @@ use Rattle.xp_rounds.specs.Visit.{Visit, planned}
 use Rattle.xp_rounds.proofs.Spots.{Spot}
 use Rattle.xp_rounds.proofs.Visits.{planned_on}
 use Rattle.xp_rounds.proofs.Sources.{Paced, planned_paced}
-use Rattle.xp_protocol.specs.Parts.{IsLawfulPart, IsPeer, script_in}
+use Rattle.xp_protocol.specs.Parts.{IsLawfulPart, IsEndOf, script_in}
 use Rattle.xp_protocol.specs.State.{State, Booting, Up, End, end_of}
 use Rattle.xp_protocol.specs.Linking.{owed as owes}
 use Rattle.xp_base.specs.declared.link.Kind.{Kind}
@@ -105,7 +105,7 @@ first_answers s st [] some p h = absurd (omega (arith, some))
 first_answers s st (t ∷ ts) some p h = inl (p.0.answers h)
 
 -- a lawful take is from a partner
-taken_peer : (s : ScenarioPart) (st : State) (q c : ℕ) (wait : Bool) → IsLawfulPart s → current s st ≡ Some (Take q c wait) → IsPeer s.part s.count q c
+taken_peer : (s : ScenarioPart) (st : State) (q c : ℕ) (wait : Bool) → IsLawfulPart s → current s st ≡ Some (Take q c wait) → IsEndOf s.part s.count q c
 taken_peer s st q c wait l e = lawful_command s st.clock.boots (st.script.begun - 1) (Take q c wait) l e
 
 copied_closed : (st : State) (q c : ℕ) (r : Rule) → At q c CopiesClosed st r → (m : PullRule) × (r ≡ Link q c (Pull m)) × IsSome (end_of st q c).shake.reason

@@ -1,6 +1,7 @@
--- What a node has to show for its windows: that its turns follow the plan, and that it begins and
--- answers its commands as soon as it can. Notices are given in their turn in any case, since a turn
--- that leaves one due isn't permitted.
+-- What a node has to show for its windows: that its turns follow the plan, that it begins its
+-- commands as soon as it can, and that it gives each answer that was due before a turn in that
+-- turn. Notices are given in their turn in any case, since a turn that leaves one due isn't
+-- permitted.
 use Rattle.std.specs.Prelude.{◌≡◌, ◌<◌, true, false, if◌then◌else◌, nat_eq, ◌||◌, List, [], ◌∷◌, length, Option, None, Some, IsSome}
 use Rattle.xp_base.specs.History.{Marked, Turn}
 use Rattle.xp_script.specs.declared.part.ScenarioPart.{ScenarioPart}

@@ -21,7 +21,7 @@ use Rattle.xp_protocol.specs.declared.rule.OwnRule.{OwnRule}
 use Rattle.xp_protocol.specs.declared.rule.OwnRule.TheVariants.{TakeActivation, TakeDeactivation, ReadEngaged}
 use Rattle.xp_protocol.specs.declared.rule.Rule.{Rule}
 use Rattle.xp_protocol.specs.declared.rule.Rule.TheVariants.{Link, Peer as ForPeer, Own}
-use Rattle.xp_protocol.specs.Parts.{IsPeer, script_in}
+use Rattle.xp_protocol.specs.Parts.{IsEndOf, script_in}
 use Rattle.xp_protocol.specs.State.{State, Booting, Up, Off, Ready, Leaving, Peer, End, end_of, peer_of, is_connected}
 use Rattle.xp_protocol.specs.declared.contact.PartnerState.TheVariants.{Activating}
 use Rattle.xp_protocol.specs.Pulling.{is_copying}
@@ -50,18 +50,18 @@ answers (Noticed q c number how ∷ more) = answers more
 abbrev pub middle : ScenarioPart → State → Turn → State
 middle s st t = after_acts s st t.before
 
--- one of some turns is such a one, said of the state before it
+-- E holds of one of some turns and of the state before it
 abbrev pub SomeTurn : (State → Turn → Type 0) → ScenarioPart → State → List Turn → Type 0
 SomeTurn E s st [] = ⊥
 SomeTurn E s st (t ∷ ts) = E st t ⊎ SomeTurn E s (after_turn s st t) ts
 
--- one of some turns is such a one, and a later one of them is such another
+-- E holds of one of some turns, and F of a later one of them
 abbrev pub SomeThen : (E F : State → Turn → Type 0) → ScenarioPart → State → List Turn → Type 0
 SomeThen E F s st [] = ⊥
 SomeThen E F s st (t ∷ ts) =
     (E st t × SomeTurn F s (after_turn s st t) ts) ⊎ SomeThen E F s (after_turn s st t) ts
 
--- one of some turns is such a one, and itself or a later one of them is such another
+-- E holds of one of some turns, and F of the same one or of a later one of them
 abbrev pub SomeFrom : (E F : State → Turn → Type 0) → ScenarioPart → State → List Turn → Type 0
 SomeFrom E F s st [] = ⊥
 SomeFrom E F s st (t ∷ ts) =
@@ -146,8 +146,8 @@ IsOpening OpenReply = Unit {0}
 IsOpening OpenComplete = Unit {0}
 IsOpening k = ⊥
 
--- a channel stands, as far as a control flag needs it: one that opens the channel, that no reason to
--- close it came, and the open request, that its registration stays
+-- a channel stands, as far as a control flag needs it: one that opens the channel, that no reason
+-- to close it came, and the open request, that its registration stays
 pub record IsStanding (q c : ℕ) (k : Kind) (size : Option Size) (st : State) : Type 0 where
   pub met : IsMet q st
   pub contact : IsSome (end_of st q c).shake.meet
@@ -178,7 +178,7 @@ abbrev pub At : ℕ → ℕ → (End → LinkRule → Type 0) → State → Rule
 At q c E st (Link k d m) = (k ≡ q) × (d ≡ c) × E (end_of st q c) m
 At q c E st r = ⊥
 
--- by this rule
+-- the rule of a step at an end is `goal`
 abbrev pub IsRule : LinkRule → End → LinkRule → Type 0
 IsRule goal e m = m ≡ goal
 
@@ -234,8 +234,8 @@ BeginsLook p after = p.paging ≡ []
 abbrev pub EndsLook : Peer → Peer → Type 0
 EndsLook p after = after.paging ≡ []
 
--- the same of a copy of the partner's record: it is over with its last word, one that is refused,
--- or a load that fails
+-- a copy of the partner's record is begun by a load where none goes on, and over with its last
+-- word, one that is refused, or a load that fails
 abbrev pub BeginsRecord : Peer → Peer → Type 0
 BeginsRecord p after = p.engage.reading ≡ None
 
@@ -281,22 +281,22 @@ pub record Owed (s : ScenarioPart) (st : State) (window : List Turn) : Type 0 wh
       is_copying (end_of st q c).sides.pull ≡ false
   pub flags : (q : ℕ) → IsPartner s q → Throughout (IsMet q) s st window →
       SomeTurn (Steps (TakesFlags q) s) s st window
-  pub requests : (q c : ℕ) → IsPeer s.part s.count q c →
+  pub requests : (q c : ℕ) → IsEndOf s.part s.count q c →
       (end_of st q c).shake.owes_message ≡ true → Throughout (IsOpen q c) s st window →
       SomeTurn (Steps (At q c IsRequest) s) s st window
-  pub arguments : (q c : ℕ) (x : Argument) → IsPeer s.part s.count q c →
+  pub arguments : (q c : ℕ) (x : Argument) → IsEndOf s.part s.count q c →
       has (kind_of x) (end_of st q c).shake.taken ≡ true →
       has_argument (kind_of x) (end_of st q c).shake ≡ false →
       Throughout (MayLoad q c) s st window →
       SomeTurn (Steps (At q c (IsRule (ReadArgument x))) s) s st window
-  pub controls : (q c : ℕ) (k : Kind) → IsPeer s.part s.count q c → (k ≡ MsgRequest → ⊥) →
+  pub controls : (q c : ℕ) (k : Kind) → IsEndOf s.part s.count q c → (k ≡ MsgRequest → ⊥) →
       owed k (end_of st q c) ≡ true →
       Throughout (IsStanding q c k (end_of st q c).registration) s st window →
       SomeTurn (Steps (At q c (IsRule (SetFlag k))) s) s st window
-  pub stores : (q c : ℕ) → IsPeer s.part s.count q c →
+  pub stores : (q c : ℕ) → IsEndOf s.part s.count q c →
       (end_of st q c).sides.local_get < (end_of st q c).sides.ack.front →
       Throughout (IsOpen q c) s st window → SomeTurn (Steps (At q c IsStore) s) s st window
-  pub copies : (q c : ℕ) → IsPeer s.part s.count q c →
+  pub copies : (q c : ℕ) → IsEndOf s.part s.count q c →
       (end_of st q c).sides.pull.owed ≡ true → Throughout (IsOpen q c) s st window →
       SomeThen (Steps (At q c BeginsCopy) s) (Steps (At q c EndsCopy) s) s st window
   pub sends : (q c : ℕ) (payload : List ℕ) (wait notify : Bool) →

@@ -6,7 +6,7 @@ use Rattle.xp_base.specs.History.{Marked, IsAnswered, after_made}
 use Rattle.xp_fabric.specs.Steps.{PartStep, part_step}
 use Rattle.xp_node.specs.Node.{NodeView, IsEnded, MakesTurn, steps_made}
 
--- the same but for the room, of which there is no less
+-- the nodes are the same but for their room, of which there is no less
 pub record IsSameNode (old new : NodeView) : Type 0 where
   pub same : new ≡ record old { room = new.room }
   pub room : old.room ≤ new.room

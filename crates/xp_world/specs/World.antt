@@ -29,11 +29,13 @@ pub record Promised (s : Scenario) (h : List Event) (m : Memory) : Type 0 where
   pub promises : Promises s h m
   pub windows : (p : ℕ) → p < s.count → Windows (part_of s p) (turns_of p h)
 
--- the history that reaches the world has turns of these partitions, in this order, those of ended ones left out
+-- the history that reaches the world has turns of these partitions, in this order, those of ended
+-- ones left out
 abbrev pub Reaches : Scenario → List ℕ → World → Type 0
 Reaches s ps w = (h : List Event) × Reached s h w × Follows s [] ps h
 
--- a history with the written turns of the scenario reaches the world, and all that is promised of a history holds of it
+-- a history with the written turns of the scenario reaches the world, and all that is promised
+-- of a history holds of it
 pub record Replayed (s : Scenario) (w : World) : Type 0 where
   pub history : List Event
   pub reached : Reached s history w
@@ -48,7 +50,8 @@ pub record IsReadyNode (among k : ℕ) (n : NodeView) : Type 0 where
 
 pub record IsReady (w : World) : Type 0 where
   pub words : length w.words ≡ length w.nodes.items
-  pub nodes : (k : ℕ) (n : NodeView) → slice_get w.nodes.items k ≡ Some n → IsReadyNode (length w.nodes.items) k n
+  pub nodes : (k : ℕ) (n : NodeView) → slice_get w.nodes.items k ≡ Some n
+      → IsReadyNode (length w.nodes.items) k n
 
 -- node p is partition p of the scenario, before its first turn
 pub record IsNewNode (s : Scenario) (p : ℕ) (n : NodeView) : Type 0 where
@@ -66,7 +69,7 @@ pub record WorldTurns (old new : World) (p : ℕ) : Type 0 where
   pub nodes : new.nodes.items ≡ slice_set old.nodes.items p after
   pub turn : TakesTurn old.words before new.words after
 
--- the same but for the room of node p
+-- the worlds are the same but for the room of node p
 pub record IsSameWorld (old new : World) (p : ℕ) : Type 0 where
   pub before : NodeView
   pub after : NodeView
@@ -77,7 +80,8 @@ pub record IsSameWorld (old new : World) (p : ℕ) : Type 0 where
 
 -- where some history reaches the one, some history reaches the other
 abbrev pub StaysReached : World → World → Type 0
-StaysReached old new = (s : Scenario) (h : List Event) → Reached s h old → (g : List Event) × Reached s g new
+StaysReached old new =
+    (s : Scenario) (h : List Event) → Reached s h old → (g : List Event) × Reached s g new
 
 -- where some history of a lawful scenario reaches the one, some history reaches the other, and all
 -- that is promised of a history holds of it

@@ -34,8 +34,9 @@ impl World {
         })
     }
 
-    /// One turn of a partition; nothing where it has ended. After a refusal all is as before. It
-    /// opens a memory with a copy of all words, and closes it into them: `replay` is for many turns.
+    /// One turn of a partition; nothing where it has ended. After want of memory all is as before,
+    /// but for room. It opens a memory with a copy of all words, and closes it into them: `replay`
+    /// is for many turns.
     pub fn turn(&mut self, part: PartId) -> Result<(), AllocError>
         requires part { part < length self.old.nodes.items }
         requires ready { IsReady self.old }

@@ -85,7 +85,8 @@ embedded_message h payload =
 abbrev pub buffered_message : Header → ℕ → Result NetMessage NetFault
 buffered_message h n =
     if is_buffer h.place
-    then (if is_buffered h n then Ok (Buffered h.place (h.size - LEAD_IN - h.tail_out)) else Err Size)
+    then (if is_buffered h n then Ok (Buffered h.place (h.size - LEAD_IN - h.tail_out))
+    else Err Size)
     else Err Address
 
 -- the message of a header whose version and magic are right, with the payload behind it

@@ -205,12 +205,13 @@ impl ChannelEnd {
         }
     }
 
-    // It is waited until the partner has acknowledged all, unless the state of the link refuses it.
+    // Begins a drain, which waits until the partner has acknowledged all, unless the state of the
+    // link refuses it.
     #[tactic(auto, using(crate::proofs::Silent::drained_silent, crate::proofs::Beginning::connected))]
     fn begin_drain(&mut self)
         requires { HasRoom self.old }
-        ensures end { self.new ≡ kept (drain_begun (drain_refusal (link_of self.old.end)) self.old.end)
-            self.old }
+        ensures end { self.new ≡
+            kept (drain_begun (drain_refusal (link_of self.old.end)) self.old.end) self.old }
         ensures sent { self.new.end.shake.sent ≡ self.old.end.shake.sent }
         ensures meet { self.new.end.shake.meet ≡ self.old.end.shake.meet }
     {

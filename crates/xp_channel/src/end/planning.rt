@@ -146,7 +146,8 @@ impl ChannelEnd {
         }
     }
 
-    // Both counters as 0 and the word of the registration that stands, and then the open request.
+    // The next step of an opening: both counters are stored as 0, then the word of the registration
+    // that stands, and then the open request is sent.
     fn plan_opening(&self) -> LinkRule
         requires owed { owed Kind.OpenRequest self.now.end ≡ true }
         requires zero { self.now.end.shake.sent.open_complete ≡ false }

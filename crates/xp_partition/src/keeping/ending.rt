@@ -6,7 +6,7 @@ ghost use Rattle.xp_partition.specs.Keeping.{state_of};
 use crate::keeping::Keeping;
 
 impl Keeping {
-    /// The script is answered to its end, and no store of get and no flag is owed.
+    /// Whether the script is answered to its end, and no store of get and no flag is owed.
     pub fn is_done(&self) -> bool
         ensures { result ≡ is_done self.now.part (state_of self.now) }
     {
@@ -14,14 +14,14 @@ impl Keeping {
         is_begun && !self.script.is_doing() && !self.partners.owe()
     }
 
-    /// It stopped as planned, or makes no turn any more.
+    /// Whether the partition stopped as planned, or halted.
     pub fn is_over(&self) -> bool
         ensures { result ≡ is_over (state_of self.now) }
     {
         self.stopped || self.life.is_halted()
     }
 
-    /// No turn comes any more.
+    /// Whether the partition makes no turn any more.
     pub fn has_ended(&self) -> bool
         ensures { result ≡ has_ended self.now.part (state_of self.now) }
     {

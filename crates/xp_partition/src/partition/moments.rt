@@ -15,8 +15,8 @@ use xp_planner::planner::Planner;
 use xp_script::setting::Moment;
 
 impl Partition {
-    /// A boot begins: nothing is known but what counts over all boots, and the visits begin again at
-    /// the own place.
+    /// A boot begins: nothing is known but what counts over all boots, and the visits begin
+    /// again at the own place.
     #[tactic(auto, using(crate::proofs::Kept::restarting))]
     pub fn restart(&mut self)
         requires partition { IsPartition self.old }
@@ -42,7 +42,7 @@ impl Partition {
         self.planner = Planner::new(own, count);
     }
 
-    /// It stops, and keeps what it knows.
+    /// The partition stops, and keeps what it knows.
     pub fn stop(&mut self)
         requires { IsPartition self.old }
         ensures state { state_of self.new.keeping ≡ stopped (state_of self.old.keeping) }

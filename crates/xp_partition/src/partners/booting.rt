@@ -22,7 +22,7 @@ impl Partners {
         }
     }
 
-    // The same of one of them.
+    // Nothing is known of one partner, under a stamp that isn't known yet.
     #[tactic(auto, using(crate::proofs::Roomy::reserving))]
     fn boot_at(&mut self, number: PartId)
         requires { number < length self.old.list }

@@ -51,7 +51,7 @@ impl Partners {
         Ok((partners, mask))
     }
 
-    // None of the partners is in contact.
+    // The partners before their links are connected: none is in contact.
     #[tactic(auto, using(crate::proofs::Opened::opening_all))]
     fn cold(alloc: Global, part: &ScenarioPart) -> Result<Partners, AllocError>
         requires { IsLawfulPart part.now }

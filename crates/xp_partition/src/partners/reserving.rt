@@ -11,8 +11,8 @@ use xp_base::ids::PartId;
 use xp_base::masks;
 
 impl Partners {
-    /// Makes room for a turn at the ends of each partner that was touched, and at no other. Then none
-    /// counts as touched. After want of memory all is as before, but for more room.
+    /// Makes room for a turn at the ends of each partner that was touched. Then none counts as
+    /// touched. After want of memory all is as before, but for more room.
     #[tactic(auto, using(crate::proofs::Roomy::unchanged))]
     pub fn reserve(&mut self) -> Result<(), AllocError>
         requires few { length self.old.list ≤ PARTS }
@@ -30,7 +30,7 @@ impl Partners {
         Ok(())
     }
 
-    // The same, whichever was touched.
+    // Makes room for a turn at the ends of each partner that was touched; the set stays.
     #[tactic(auto, using(crate::proofs::Roomy::reserving_all))]
     fn reserve_touched(&mut self) -> Result<(), AllocError>
         requires few { length self.old.list ≤ PARTS }
@@ -46,7 +46,7 @@ impl Partners {
         Ok(())
     }
 
-    // The same at one partner, if it was touched.
+    // Makes room for a turn at the ends of one partner, if it was touched.
     #[tactic(auto, using(crate::proofs::Roomy::reserving))]
     fn reserve_at(&mut self, number: PartId) -> Result<(), AllocError>
         requires { number < length self.old.list }

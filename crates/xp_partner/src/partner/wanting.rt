@@ -90,7 +90,7 @@ impl Partner {
         self.numbers.number(kind)
     }
 
-    /// The number of a copy of a channel that goes on, of its counters or an entry.
+    /// The number of a copy of a channel that goes on, of its counters or of a run of entries.
     pub fn link_number(&self, channel: Channel, kind: CopyKind) -> u64
         ensures { result ≡ going_of kind (going_at self.now channel) }
     {

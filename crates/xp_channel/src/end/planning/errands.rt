@@ -45,8 +45,8 @@ impl ChannelEnd {
         Some(self.plan_flag(kind))
     }
 
-    /// A copy of the counters that goes on is made to its end. Another one is begun by the first two
-    /// of the errand's steps, where it is owed or a take finds no entry.
+    /// A copy of the counters that goes on is made to its end. Another one is begun by the first
+    /// two of the errand's steps, where it is owed or a take finds no entry.
     pub fn counters_step(&self, used: u8) -> Option<LinkRule>
         ensures value { result ≡ counters_at used self.now.end }
         ensures can { IfSome result (λ rule. link_can self.now.end rule) }
@@ -63,8 +63,8 @@ impl ChannelEnd {
         }
     }
 
-    /// The step of a send in progress. It loads the partner's get by the first of the errand's steps
-    /// alone.
+    /// The step of a send in progress. It loads the partner's get by the first of the errand's
+    /// steps alone.
     pub fn send_step(&self, used: u8) -> Option<LinkRule>
         ensures value { result ≡ send_at used self.now.end }
         ensures can { IfSome result (λ rule. link_can self.now.end rule) }

@@ -274,7 +274,8 @@ impl ChannelEnd {
         requires next { IsSome self.old.end.shake.meet → 2 ≤ self.old.room.next }
         requires asks { MayStep self.old.end rule }
         ensures end { self.new ≡
-            roomed (kept (link_effect (place_of self.old) self.old.end rule word) self.old) self.new }
+            roomed (kept (link_effect (place_of self.old) self.old.end rule word) self.old)
+            self.new }
         ensures reason { result ≡ (link_effect (place_of self.old) self.old.end rule word).reason }
         ensures pays { Pays 1 2 self.old self.new }
     {
@@ -351,7 +352,7 @@ impl ChannelEnd {
         }
     }
 
-    /// The same of the step that `next` gives for a kind of work.
+    /// Whether the step that `next` gives for a kind of work may be made, as `may_step` says.
     pub fn may_feed(&self, work: Work) -> bool
         ensures yes { result ≡ true → MayFeed self.now.end (end_plan work self.now.end) }
         ensures no { MayFeed self.now.end (end_plan work self.now.end) → result ≡ true }
