@@ -5,6 +5,8 @@
 #   busy  22,000 messages sent, taken and released through a queue of 8 entries, in 16,000,000 written turns
 #   pairs 5,500 messages in each of four pairs of partitions, in 16,000,000 written turns
 #   long  16,000 messages of 1,008 bytes, each of which fills the queue, in 16,000,000 written turns
+#   cold  eight partitions that boot, meet each other and wait: 400,000 written turns, of which all are made
+#   again a channel that is opened and closed 8,000 times, in 16,000,000 written turns
 # Where rustc is there, bench/baseline.rs replays the first two: a plain program that proves nothing, keeps no history and
 # knows two partitions alone.
 # Times are processor seconds, of the program and of the system for it. Other load makes them longer.
@@ -20,7 +22,10 @@ program="$(readlink -f "$program")"
 folder="$(mktemp -d)" || exit 1
 trap 'rm -rf "$folder"' EXIT
 
-turns=16000000
+# written_turns NAME: how many turns the schedule of a scenario has.
+written_turns() {
+    case "$1" in cold) echo 400000 ;; *) echo 16000000 ;; esac
+}
 
 make_idle() {
     printf '%s\n' 'xpsim 1' 'partitions 2' 'warm 0 1 0 entries 4 limit 112' 'script 1' 'take 0 0' 'schedule' 'rounds 8000000'
@@ -63,6 +68,24 @@ make_long() {
     }'
 }
 
+make_cold() {
+    awk 'BEGIN {
+        print "xpsim 1\npartitions 8"
+        for (p = 0; p < 8; p++) print "script " p "\nidle 60000"
+        print "schedule\nrounds 50000"
+    }'
+}
+
+make_again() {
+    awk 'BEGIN {
+        print "xpsim 1\npartitions 2\nscript 0"
+        for (k = 0; k < 8000; k++) print "register 1 0 entries 4 limit 112\nconnected 1 0\nunregister 1 0\nclosed 1 0"
+        print "script 1\nregister 0 0 entries 4 limit 112"
+        for (k = 0; k < 8000; k++) print "closed 0 0"
+        print "schedule\nrounds 8000000"
+    }'
+}
+
 . "$here/measure.sh"
 
 line() { # who seconds KiB turns
@@ -85,8 +108,9 @@ if command -v rustc >/dev/null 2>&1; then
 fi
 
 failed=0
-for name in idle busy pairs long; do
+for name in idle busy pairs long cold again; do
     "make_$name" >"$folder/$name.xp"
+    turns="$(written_turns "$name")"
     echo "$name: $turns written turns"
     read -r seconds memory status < <(measure "$folder/$name.xp" "$folder/$name.report" "$program" replay)
     if [ "${status:-1}" != 0 ]; then
@@ -96,7 +120,7 @@ for name in idle busy pairs long; do
     fi
     line xpsim "$seconds" "$memory" "$turns"
     [ -n "$baseline" ] || continue
-    case "$name" in pairs | long) continue ;; esac
+    case "$name" in pairs | long | cold | again) continue ;; esac
     read -r plain_seconds plain_memory status < <(measure "$folder/$name.xp" "$folder/$name.plain" "$baseline" replay)
     [ "${status:-1}" = 0 ] || continue
     line baseline "$plain_seconds" "$plain_memory" "$turns"

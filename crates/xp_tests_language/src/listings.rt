@@ -1,5 +1,5 @@
-// Dumps by the top call: of worked scenarios, and one of the older layout, each listed or refused in
-// pieces of several lengths.
+// Dumps by the top call: of worked scenarios, and one of the older layout, each listed or refused
+// in pieces of several lengths.
 use std::alloc::{AllocError, Global};
 use std::process::Abort;
 use std::test::Fail;
@@ -85,7 +85,8 @@ fn versions_are_listed(rt: HostRuntime) -> Result<(), Fail> {
     expect_listing(&rt, rt.alloc(), &dump, VERSIONS_LISTING)
 }
 
-/// Partition 0 closes its channel, which partition 1 answers, and begins to open it anew while partition 1 takes no turn.
+/// Partition 0 closes its channel, which partition 1 answers, and begins to open it anew while
+/// partition 1 takes no turn.
 const CLOSED: &[u8] = b"xpsim 1
 partitions 2
 warm 0 1 0 entries 2 limit 16
@@ -142,7 +143,7 @@ fn another_owner_is_refused(rt: HostRuntime) -> Result<(), Fail> {
 }
 
 /// The words of a dump of the older layout that aren't 0, by their numbers.
-const OLDER_WORDS: [(usize, u64); 39] = [
+const OLDER_WORDS: [(u16, u64); 39] = [
     (0, 3_544_421_199_813_824_600),
     (1, 2),
     (2, 3_550_322_227_096_539_224),
@@ -200,13 +201,9 @@ partition 1 version 3.1 stamp 1 partitions 3
 fn older_dumps_are_listed(rt: HostRuntime) -> Result<(), Fail> {
     let mut dump = Vec::new(rt.alloc());
     for (number, word) in OLDER_WORDS {
-        while dump.len() < 8 * number {
-            dump.push(0)?;
-        }
+        dump.resize(8 * usize::from(number), 0)?;
         dump.extend_from_slice(&word.to_le_bytes())?;
     }
-    while dump.len() < 94_608 {
-        dump.push(0)?;
-    }
+    dump.resize(94_608, 0)?;
     expect_listing(&rt, rt.alloc(), &dump, OLDER_LISTING)
 }

@@ -396,8 +396,12 @@ fn expect_reasons(rt: &impl Abort, report: &str, side: u8, own: [&str; 2], their
     for line in report.lines() {
         part = part_from(line, part);
         if line.starts_with("  over ") {
-            let [one, another] = if part == side as u64 { own } else { theirs };
-            assert!(rt; line.ends_with(one) || line.ends_with(another), "{line}");
+            let is_told = if part == side as u64 {
+                line.ends_with(own[0]) || line.ends_with(own[1])
+            } else {
+                line.ends_with(theirs[0]) || line.ends_with(theirs[1])
+            };
+            assert!(rt; is_told, "{line}");
         }
     }
 }

@@ -156,8 +156,8 @@ fn fails_at_each_load_of_a_whole_queue(rt: HostRuntime) -> Result<(), Fail> {
             has,
             lacks: &["bad-", "halted", "  over", "take ok"],
         };
-        for load in 0..128u8 {
-            let line = failure(rt.alloc(), 1, "entries", load)?;
+        for load in 0..128u64 {
+            let line = failure(rt.alloc(), 1, "entries", 1, load)?;
             expect_report(&rt, rt.alloc(), frame, &line, told)?;
         }
     }

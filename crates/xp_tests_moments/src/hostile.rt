@@ -1,5 +1,5 @@
 // Three scenarios of two partitions, of which one stops or boots again at each of its turns, or a load of its copies fails.
-use crate::replays::{Replay, failure, moment, replay};
+use crate::replays::{Replayed, failure, moment, replay};
 use crate::reports::{expect_promises, state_of, waiting};
 use crate::words::has_engaged;
 use std::alloc::{AllocError, Global};
@@ -159,7 +159,7 @@ fn text_of(alloc: Global, base: Base, own: &str) -> Result<Vec<u8>, AllocError> 
     Ok(text.into_bytes())
 }
 
-fn replay_base(rt: &impl Abort, alloc: Global, base: Base, own: &str) -> Result<Replay, Fail> {
+fn replay_base(rt: &impl Abort, alloc: Global, base: Base, own: &str) -> Result<Replayed, Fail> {
     replay(rt, alloc, text_of(alloc, base, own)?)
 }
 

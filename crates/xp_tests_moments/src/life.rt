@@ -42,12 +42,12 @@ const LOOK: &[Row] = &[
     (1, ENGAGED, OpKind::Or(1)),
 ];
 
-/// It finds its memory free, shows its mask, prepares the memory under a session and opens it; it is engaged, reads its partner's record
+/// It finds its memory free, prepares it under a session, shows it in its mask and opens it; it is engaged, reads its partner's record
 /// and shows it. That is contact. Then it closes its memory, tells its partner, clears its bit, and finds its memory free again.
 const AREA: &[Row] = &[
     (0, ENGAGED, OpKind::Load),
-    (0, MASK, OpKind::Store(2)),
     (0, OWN + 1, OpKind::Store(SESSION)),
+    (0, MASK, OpKind::Store(2)),
     (0, OWN, OpKind::Store(FIRST)),
     (1, ENGAGED, OpKind::Or(1)),
     (1, THEIRS, OpKind::Load),

@@ -279,7 +279,7 @@ fn write_command(
 }
 
 /// The scripts of a boot. Commands of even numbers are of channel 0, the others of channel 2.
-fn scripts(alloc: Global, boot: u64, dice: &mut Dice) -> Result<Scripts, AllocError> {
+fn scripts_of(alloc: Global, boot: u64, dice: &mut Dice) -> Result<Scripts, AllocError> {
     let mut scripts = Scripts {
         zero: String::new(alloc),
         one: String::new(alloc),
@@ -340,7 +340,7 @@ fn scenario(alloc: Global, number: u64) -> Result<Vec<u8>, AllocError> {
     write!(text, "xpsim 1\npartitions 2\n")?;
     write_settings(&mut text, &mut dice)?;
     for boot in 1..BOOTS_END {
-        let Scripts { zero, one } = scripts(alloc, boot, &mut dice)?;
+        let Scripts { zero, one } = scripts_of(alloc, boot, &mut dice)?;
         write!(text, "script 0\n{zero}idle 400\nscript 1\n{one}idle 400\n")?;
     }
     write_schedule(&mut text, &mut dice)?;

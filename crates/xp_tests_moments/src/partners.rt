@@ -1,5 +1,5 @@
 // Tables of partners that come, go and come again: their reports, and the words that they leave.
-use crate::replays::{Replay, expect_exact, pair, replay};
+use crate::replays::{Replayed, expect_exact, pair, replay};
 use crate::reports::{expect_promises, has_line, refusals, waiting};
 use crate::words::{expect_contact, has_engaged, record_of, session, word_at};
 use std::alloc::{AllocError, Global};
@@ -32,7 +32,7 @@ fn like_report(alloc: Global, count: u8, lines: &str) -> Result<String, AllocErr
 }
 
 /// Expects that each of two partitions or more is in contact with each other one.
-fn expect_contacts(rt: &impl Abort, made: &Replay, count: u8) {
+fn expect_contacts(rt: &impl Abort, made: &Replayed, count: u8) {
     match &made.end {
         Some(world) => {
             for part in 0..count {
@@ -137,7 +137,7 @@ fn write_boots(text: &mut String) -> Result<(), AllocError> {
 }
 
 /// The words of both after all boots: the last session of each, and the other's as echo.
-fn expect_last_boot(rt: &impl Abort, made: &Replay) {
+fn expect_last_boot(rt: &impl Abort, made: &Replayed) {
     match &made.end {
         Some(world) => {
             expect_contact(rt, world, 0, 1, "boots");
@@ -213,7 +213,7 @@ const TOGETHER_LINES: [&str; 10] = [
 /// The steps of a boot, of which the last one writes the stamp.
 const BOOT_STEPS: u64 = 6;
 
-fn expect_together(rt: &impl Abort, made: &Replay, turn: u64) {
+fn expect_together(rt: &impl Abort, made: &Replayed, turn: u64) {
     let name = "at once";
     let stamp = if turn < BOOT_STEPS { 1 } else { 2 };
     expect_promises(rt, &made.report, name);
@@ -289,7 +289,7 @@ fn activates_in_each_state(rt: HostRuntime) -> Result<(), Fail> {
 }
 
 /// A partner that isn't wanted again finds no magic and no bit, whenever it was deactivated.
-fn expect_unwanted(rt: &impl Abort, made: &Replay) {
+fn expect_unwanted(rt: &impl Abort, made: &Replayed) {
     match &made.end {
         Some(world) => {
             assert!(rt; record_of(world, 0, 1).magic == 0);
@@ -325,7 +325,7 @@ fn leave_text(alloc: Global) -> Result<Vec<u8>, AllocError> {
 }
 
 /// Expects that no partition shows a magic to another one, and none is engaged.
-fn expect_left(rt: &impl Abort, made: &Replay) {
+fn expect_left(rt: &impl Abort, made: &Replayed) {
     match &made.end {
         Some(world) => {
             for part in 0..LEAVING {
@@ -368,7 +368,7 @@ partition 1 stopped boots 1
 ";
 
 /// The memory of partition 0 is closed and its bit is clear, and that of partition 1 stands for ever.
-fn expect_kept(rt: &impl Abort, made: &Replay) {
+fn expect_kept(rt: &impl Abort, made: &Replayed) {
     match &made.end {
         Some(world) => {
             assert!(rt; record_of(world, 0, 1).magic == 0);
@@ -398,26 +398,31 @@ const LONG: &str = "minor 0 2\nminor 1 2\nwarm 0 1 0 entries 1 limit 1008\n";
 
 /// Partition 0 sends a message and one more that finds its queue full, and partition 1, which takes nothing, goes down.
 fn sent_text(alloc: Global, turn: u64) -> Result<Vec<u8>, AllocError> {
+    let mut zero = String::new(alloc);
     let mut one = String::new(alloc);
-    let zero = "send 1 0 900*61 notify\nsend 1 0 900*62 notify\ndrain 1 0\nidle 300\n";
+    write!(
+        zero,
+        "send 1 0 900*61 notify\nsend 1 0 900*62 notify\ndrain 1 0\nidle 300\n"
+    )?;
     write!(one, "idle {turn}\ndeactivate 0\nidle 300\n")?;
-    pair(alloc, LONG, [zero, &one], "rounds 1500\n")
+    pair(alloc, LONG, [&zero, &one], "rounds 1500\n")
 }
 
 /// Partition 0 goes down behind a message, which partition 1 takes and releases.
 fn taken_text(alloc: Global, turn: u64) -> Result<Vec<u8>, AllocError> {
     let mut zero = String::new(alloc);
-    let one = "take 0 0\nrelease 0 0 0\ntake 0 0\nidle 300\n";
+    let mut one = String::new(alloc);
     write!(
         zero,
         "send 1 0 900*61 notify\nidle {turn}\ndeactivate 1\nidle 300\n"
     )?;
-    pair(alloc, LONG, [&zero, one], "rounds 1500\n")
+    write!(one, "take 0 0\nrelease 0 0 0\ntake 0 0\nidle 300\n")?;
+    pair(alloc, LONG, [&zero, &one], "rounds 1500\n")
 }
 
 /// Expects that one partition went down by itself and the other one was told, and that the other one's commands were answered so, the
 /// first ones well and all later ones by that reason.
-fn expect_told(rt: &impl Abort, made: &Replay, overs: [&str; 2], refused: [&str; 2], name: &str) {
+fn expect_told(rt: &impl Abort, made: &Replayed, overs: [&str; 2], refused: [&str; 2], name: &str) {
     expect_promises(rt, &made.report, name);
     for line in overs {
         assert!(rt; has_line(&made.report, line), "{name}: no {line}");

@@ -58,12 +58,12 @@ fn expect_text(rt: &impl Abort, report: &str, own: &str, told: Told) {
 
 /// A replay that was made: its report, and the world that it leaves.
 #[derive(Drop)]
-pub struct Replay {
+pub struct Replayed {
     pub report: String,
     pub end: Option<World>,
 }
 
-impl Replay {
+impl Replayed {
     /// How many loads failed.
     pub fn failures(&self) -> u64 {
         match &self.end {
@@ -87,7 +87,7 @@ fn failures(world: &World) -> u64 {
 }
 
 /// Replays the scenario of a text, which has to be one that runs.
-pub fn replay(rt: &impl Abort, alloc: Global, text: Vec<u8>) -> Result<Replay, Fail> {
+pub fn replay(rt: &impl Abort, alloc: Global, text: Vec<u8>) -> Result<Replayed, Fail> {
     let words = replay_word(alloc)?;
     let mut source = WholeSource::new(text);
     let mut sink = WholeSink::new(alloc);
@@ -97,7 +97,7 @@ pub fn replay(rt: &impl Abort, alloc: Global, text: Vec<u8>) -> Result<Replay, F
         Ok(report) => String::from_str(alloc, report)?,
         Err(_) => String::new(alloc),
     };
-    Ok(Replay { report, end })
+    Ok(Replayed { report, end })
 }
 
 /// The text of two partitions: settings, the scripts of each, and the lines of the schedule.
@@ -117,7 +117,7 @@ pub fn pair(
 }
 
 /// Expects that a report is this one.
-pub fn expect_exact(rt: &impl Abort, made: &Replay, wanted: &str, name: &str) {
+pub fn expect_exact(rt: &impl Abort, made: &Replayed, wanted: &str, name: &str) {
     assert!(rt; made.report.as_str() == wanted, "{name}: {}", made.report);
 }
 
@@ -127,7 +127,7 @@ pub fn replay_with(
     alloc: Global,
     frame: Frame,
     own: &str,
-) -> Result<Replay, Fail> {
+) -> Result<Replayed, Fail> {
     replay(rt, alloc, scenario(alloc, frame, own)?)
 }
 

@@ -2,6 +2,7 @@
 #![tactic(auto)]
 
 use std::process::ExitCode;
+use std::thread::Threads;
 use std::vec::Vec;
 use std::{env, io};
 use xp_tool::status::{Status, fault_text};
@@ -26,18 +27,26 @@ fn refusal(error: &io::Error) -> Status {
     }
 }
 
-fn run(rt: &HostRuntime) -> Status {
+fn run<R: Threads + Sync>(rt: &HostRuntime, threads: &R) -> Status {
     let words = match arguments(rt) {
         Ok(words) => words,
         Err(error) => return refusal(&error),
     };
     let mut source = StdSource::new(rt.stdin());
     let mut sink = StdSink::new(rt.stdout());
-    tool(rt, rt.alloc(), &words, &mut source, &mut sink, &OpenGate).status
+    tool(
+        threads,
+        rt.alloc(),
+        &words,
+        &mut source,
+        &mut sink,
+        &OpenGate,
+    )
+    .status
 }
 
 fn main(rt: HostRuntime) -> ExitCode {
-    let status = run(&rt);
+    let status = run(&rt, &rt);
     if status != Status::Ok
         && let Ok(line) = fault_text(rt.alloc(), &status)
     {
