@@ -30,7 +30,7 @@ use Rattle.xp_acts.specs.Becoming.{IsAlike, Becomes}
 use Rattle.xp_acts.specs.Ends.{peers_at, notes_at}
 
 pub alike : (x : Standing) → IsAlike x x
-alike x = record { own = refl; partner = refl; version = refl; wait = refl; stamp = refl; masked = refl; zeroed = refl; cleared = refl }
+alike x = record { own = refl; partner = refl; version = refl; wait = refl; check = refl; stamp = refl; masked = refl; zeroed = refl; cleared = refl }
 
 no_notes : ℕ → ℕ → List Note
 no_notes q c = []
@@ -170,6 +170,7 @@ standing_alike s stamp mask q x y a h = record {
   partner = a.partner ∙ h.partner;
   version = a.version ∙ h.version;
   wait = a.wait ∙ h.wait;
+  checked = a.check ∙ h.checked;
   stamped = a.stamp ∙ h.stamped;
   masked = a.masked ∙ h.masked;
 }
@@ -189,7 +190,7 @@ pub kept_alike : (x : Keeping) (ps : Partners) (sc : Script) → IsKept x → le
 kept_alike x ps sc h l a = record {
   lawful = h.lawful;
   count = l ∙ h.count;
-  standing = λ q i. standing_alike x.part x.stamp x.mask q (partner_at x.partners.list q).standing (partner_at ps.list q).standing (a q (subst (λ (n : ℕ). q < n) (sym h.count) i)) (h.standing q i);
+  standing = λ q i. standing_alike x.part x.stamp x.beat.mask q (partner_at x.partners.list q).standing (partner_at ps.list q).standing (a q (subst (λ (n : ℕ). q < n) (sym h.count) i)) (h.standing q i);
   own = h.own;
   partitions = h.partitions;
   boot = λ i. booted_alike x.part x.boot x.partners ps h.count a (h.boot i);

@@ -42,8 +42,8 @@ seen_wanting true p = refl
 seen_wanting false p = refl
 
 alike_wanting : (b : Bool) (p : Partner) → IsAlike p.standing (wanting b p).standing
-alike_wanting true p = record { own = refl; partner = refl; version = refl; wait = refl; stamp = refl; masked = refl; zeroed = refl; cleared = refl }
-alike_wanting false p = record { own = refl; partner = refl; version = refl; wait = refl; stamp = refl; masked = refl; zeroed = refl; cleared = refl }
+alike_wanting true p = record { own = refl; partner = refl; version = refl; wait = refl; check = refl; stamp = refl; masked = refl; zeroed = refl; cleared = refl }
+alike_wanting false p = record { own = refl; partner = refl; version = refl; wait = refl; check = refl; stamp = refl; masked = refl; zeroed = refl; cleared = refl }
 
 -- some of the partners become so, and only those that are touched
 pub record Turned (b : Bool) (x : Partners) (n m : ℕ) (y : Partners) : Type 0 where

@@ -13,6 +13,7 @@ pub record IsAlike (x y : Standing) : Type 0 where
   pub partner : y.partner ≡ x.partner
   pub version : y.version ≡ x.version
   pub wait : y.wait ≡ x.wait
+  pub check : y.check ≡ x.check
   pub stamp : y.stamp ≡ x.stamp
   pub masked : y.masked ≡ x.masked
   pub zeroed : y.engage.zeroed ≡ x.engage.zeroed

@@ -2,7 +2,7 @@
 ghost use Rattle.std.specs.Prelude.{◌≡◌, ◌≢◌, ℕ, ◌+◌, ◌-◌, ◌<◌, ◌≤◌, ◌^◌, [], ◌∷◌, IfSome, IfNone, None, true, false, not, nat_lt, length, map};
 ghost use Rattle.xp_base.specs.declared.layout.TheConstants.{PARTS};
 ghost use Rattle.xp_base.specs.History.{Answered};
-ghost use Rattle.xp_protocol.specs.Acts.{due, due_to, current, partition_due, all_gone, after_act, noted_act};
+ghost use Rattle.xp_protocol.specs.Acts.{due, due_to, current, partition_due, online_due, has_stored, all_gone, after_act, noted_act};
 ghost use Rattle.xp_counts.specs.Counted.{AreCounted};
 ghost use Rattle.xp_partner.specs.Partner.{peer_seen};
 ghost use Rattle.xp_partition.specs.declared.life.Life.TheVariants.{Up};
@@ -21,7 +21,7 @@ use xp_partition::life::Life;
 use xp_partition::partners::Partners;
 use xp_partner::partner::Partner;
 use xp_script::command::Command;
-use xp_script::log::LogAnswer;
+use xp_script::log::{LogAnswer, OnlineAnswer};
 
 /// Answers the command in progress, where the partition is up and its answer is due.
 pub fn answer(keeping: &mut Keeping) -> Option<LogAnswer>
@@ -89,7 +89,30 @@ fn partition_answer(keeping: &Keeping, command: &Command) -> Option<LogAnswer>
         Command::Activate { .. } => Some(LogAnswer::Activate),
         Command::Leave if all_left(&keeping.partners, keeping.part.part) => Some(LogAnswer::Leave),
         Command::Idle { turns } if has_idled(keeping, *turns) => Some(LogAnswer::Idle),
+        Command::Offline if has_stored(keeping) => Some(LogAnswer::Offline),
+        Command::Online => online_answer(keeping),
         _ => None,
+    }
+}
+
+// Whether the command in progress has stored the offline count.
+fn has_stored(keeping: &Keeping) -> bool
+    ensures { result ≡ has_stored (state_of keeping.now) }
+{
+    keeping.beat.has_stored(keeping.script.begun())
+}
+
+// The answer of `online`, where it is due.
+fn online_answer(keeping: &Keeping) -> Option<LogAnswer>
+    ensures { result
+        ≡ online_due (has_stored (state_of keeping.now)) keeping.now.beat.offline }
+{
+    if has_stored(keeping) {
+        Some(LogAnswer::Online(OnlineAnswer::Ok))
+    } else if keeping.beat.is_offline() {
+        None
+    } else {
+        Some(LogAnswer::Online(OnlineAnswer::NotOffline))
     }
 }
 

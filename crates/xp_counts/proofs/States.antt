@@ -1,5 +1,5 @@
 -- The counts of what a partition knows, after each step, each act, each turn, and from the opening on.
-use Rattle.std.proofs.Common.{◌≡◌, ℕ, ◌+◌, ◌*◌, ◌^◌, ◌<◌, ◌≤◌, Bool, true, false, ◌&&◌, not, cond, eqb, List, [], ◌∷◌, length, replicate, set, refl, ap, sym, ◌∙◌, subst, arith, add-one, Option, Some, None, inl, inr, ◌⊎◌}
+use Rattle.std.proofs.Common.{◌≡◌, ℕ, ◌+◌, ◌-◌, ◌*◌, ◌^◌, ◌<◌, ◌≤◌, Bool, true, false, ◌&&◌, not, cond, eqb, List, [], ◌∷◌, length, replicate, set, refl, ap, sym, ◌∙◌, subst, arith, add-one, Option, Some, None, inl, inr, ◌⊎◌}
 use Rattle.std.specs.List.{AllByRecursion}
 use Rattle.std.proofs.lemmas.Bool.{cases_lt}
 use Rattle.std.proofs.lemmas.Nat.{mul-le}
@@ -8,33 +8,35 @@ use Rattle.std.proofs.lemmas.List.{get_or_past, get_or-replicate, length-replica
 use Rattle.xp_base.specs.declared.step.Answer.{Answer}
 use Rattle.xp_base.specs.declared.step.Answer.TheVariants.{Word, Failed}
 use Rattle.xp_base.specs.declared.step.CopyKind.{CopyKind}
-use Rattle.xp_base.specs.declared.step.CopyKind.TheVariants.{Counters, Get, Entries, Page as PageCopy, Record as RecordCopy, Args}
+use Rattle.xp_base.specs.declared.step.CopyKind.TheVariants.{Counters, Get, Entries, Page as PageCopy, Beat as BeatCopy, Record as RecordCopy, Args}
 use Rattle.xp_base.specs.History.{Act, Begun, Answered, Noticed, Marked, Turn, NoticeKind}
 use Rattle.xp_script.specs.declared.command.Command.{Command}
+use Rattle.xp_script.specs.declared.command.Command.TheVariants as commands
 use Rattle.xp_script.specs.declared.part.Link.{Link}
 use Rattle.xp_script.specs.declared.part.ScenarioPart.{ScenarioPart}
 use Rattle.xp_protocol.specs.declared.rule.RingRule.TheVariants.{ReadGet, WriteEntryWord, AcceptMessage}
 use Rattle.xp_protocol.specs.declared.rule.LinkRule.TheVariants.{Ring, Pull, Acknowledge, SetFlag, ZeroGet, ZeroPut, StoreArgument, ReadArgument}
-use Rattle.xp_protocol.specs.declared.rule.OwnRule.TheVariants.{ReadEngaged, TakeDeactivation, ReadStamp, ZeroMask, ZeroOffline, WriteStamp, StoreMask, TakeActivation}
+use Rattle.xp_protocol.specs.declared.rule.OwnRule.TheVariants.{ReadEngaged, TakeDeactivation, ReadStamp, ZeroMask, ZeroOffline, WriteStamp, StoreMask, TakeActivation, StoreBeat, StoreOffline}
 use Rattle.xp_protocol.specs.declared.rule.Rule.{Rule}
 use Rattle.xp_protocol.specs.declared.rule.Rule.TheVariants.{Link as ForLink, Peer as ForPeer, Own}
 use Rattle.xp_protocol.specs.Effects.{Copied}
-use Rattle.xp_protocol.specs.State.{State, Clock, Script, Copies, Peer, End, Old, cold_peer, idle_end, peer_at, peer_of, end_of, warm_end, warm_peer, first_met, opened_new, each, link_at, base_peer, first_peers, opened_peers, opened_state}
-use Rattle.xp_protocol.specs.Peering.{peer_read, deactivation_heard, booted_peer}
-use Rattle.xp_protocol.specs.Rules.{here_of, mark_of, place_for, row_of, after_answer, peer_numbered, peer_answered, link_answered, puts_after, one_more, counted}
+use Rattle.xp_protocol.specs.State.{State, Beats, Clock, Script, Copies, Peer, End, Old, cold_peer, idle_end, peer_at, peer_of, end_of, warm_end, warm_peer, first_met, opened_new, each, link_at, base_peer, first_peers, opened_peers, opened_state}
+use Rattle.xp_protocol.specs.Peering.{or_zero, peer_read, deactivation_heard, booted_peer}
+use Rattle.xp_protocol.specs.Rules.{here_of, mark_of, place_for, row_of, after_answer, peer_numbered, peer_answered, link_answered, beats_after, offline_by, puts_after, one_more, counted}
 use Rattle.xp_protocol.specs.Decode.{rule_of}
-use Rattle.xp_protocol.specs.Acts.{Aim, EndName, named_end, upcoming, current, end_begun, end_answered, aim_of, aim_by, aimed, with_aim, command_begun, peers_wanted, after_act, after_acts}
+use Rattle.xp_protocol.specs.Acts.{Aim, has_stored, EndName, named_end, upcoming, current, end_begun, end_answered, aim_of, aim_by, aimed, with_aim, command_begun, peers_wanted, after_act, after_acts}
 use Rattle.xp_protocol.specs.Runs.{after_ruled, after_step, turn_counted, restart_comes, stop_comes, moment_by, moment, is_over, start, acted, after_turn, state_after}
 use Rattle.xp_protocol.proofs.Slots.{at_each, at_peer, at_slot}
 use Rattle.xp_protocol.proofs.Frames.{wanted_at, idle_at}
 use Rattle.xp_counts.specs.declared.laws.TheConstants.{COUNTED_TURNS, MOST_CALLS}
-use Rattle.xp_counts.specs.Counted.{IsEndCounted, IsPeerCounted, AreCopiesCounted, IsClockCounted, IsScriptCounted, AreCounted, calls_in, raised_by, HasCalls, IsBounded}
+use Rattle.xp_counts.specs.Counted.{IsEndCounted, IsPeerCounted, AreCopiesCounted, IsClockCounted, IsScriptCounted, IsBeatsCounted, AreCounted, calls_in, raised_by, HasCalls, IsBounded}
 use Rattle.xp_counts.proofs.Ends.{idle_counted, warm_counted, linked, answers, notices, begins}
 use Rattle.xp_counts.proofs.Peers.{more_peer, cold_counted, peered, numbered, failed, reasoned, freed, told, set_counted, booted}
 
 more_copies : (a b : ℕ) (x : Copies) → a ≤ b → AreCopiesCounted a x → AreCopiesCounted b x
 more_copies a b x l h = record {
   pages = omega (arith, h.pages, l);
+  beats = omega (arith, h.beats, l);
   records = omega (arith, h.records, l);
   args = omega (arith, h.args, l);
   counters = omega (arith, h.counters, l);
@@ -48,17 +50,21 @@ more_clock a b x l h = record { boots = omega (arith, h.boots, l); turns = omega
 more_script : (a b : ℕ) (x : Script) → a ≤ b → IsScriptCounted a x → IsScriptCounted b x
 more_script a b x l h = record { begun = omega (arith, h.begun, l); since = omega (arith, h.since, l) }
 
+more_beats : (a b : ℕ) (x : Beats) → a ≤ b → IsBeatsCounted a x → IsBeatsCounted b x
+more_beats a b x l h = record { offline = omega (arith, h.offline, l); stored_for = omega (arith, h.stored_for, l) }
+
 pub more_counted : (a b : ℕ) (st : State) → a ≤ b → AreCounted a st → AreCounted b st
-more_counted a b st l h = record { clock = more_clock a b st.clock l h.clock; script = more_script a b st.script l h.script; peers = λ q. more_peer a b (peer_of st q) l (h.peers q) }
+more_counted a b st l h = record { clock = more_clock a b st.clock l h.clock; beats = more_beats a b st.beats l h.beats; script = more_script a b st.script l h.script; peers = λ q. more_peer a b (peer_of st q) l (h.peers q) }
 
 module _ (n : ℕ) where
   one_copy : (kind : CopyKind) (x : Copies) → AreCopiesCounted n x → AreCopiesCounted (n + 1) (one_more kind x)
-  one_copy Args x h = let k = more_copies n (n + 1) x (omega arith) h in let l = h.args in record { pages = k.pages; records = k.records; args = omega (arith, l); counters = k.counters; get = k.get; entries = k.entries }
-  one_copy Counters x h = let k = more_copies n (n + 1) x (omega arith) h in let l = h.counters in record { pages = k.pages; records = k.records; args = k.args; counters = omega (arith, l); get = k.get; entries = k.entries }
-  one_copy Get x h = let k = more_copies n (n + 1) x (omega arith) h in let l = h.get in record { pages = k.pages; records = k.records; args = k.args; counters = k.counters; get = omega (arith, l); entries = k.entries }
-  one_copy Entries x h = let k = more_copies n (n + 1) x (omega arith) h in let l = h.entries in record { pages = k.pages; records = k.records; args = k.args; counters = k.counters; get = k.get; entries = omega (arith, l) }
-  one_copy RecordCopy x h = let k = more_copies n (n + 1) x (omega arith) h in let l = h.records in record { pages = k.pages; records = omega (arith, l); args = k.args; counters = k.counters; get = k.get; entries = k.entries }
-  one_copy PageCopy x h = let k = more_copies n (n + 1) x (omega arith) h in let l = h.pages in record { pages = omega (arith, l); records = k.records; args = k.args; counters = k.counters; get = k.get; entries = k.entries }
+  one_copy Args x h = let k = more_copies n (n + 1) x (omega arith) h in let l = h.args in record { pages = k.pages; beats = k.beats; records = k.records; args = omega (arith, l); counters = k.counters; get = k.get; entries = k.entries }
+  one_copy Counters x h = let k = more_copies n (n + 1) x (omega arith) h in let l = h.counters in record { pages = k.pages; beats = k.beats; records = k.records; args = k.args; counters = omega (arith, l); get = k.get; entries = k.entries }
+  one_copy Get x h = let k = more_copies n (n + 1) x (omega arith) h in let l = h.get in record { pages = k.pages; beats = k.beats; records = k.records; args = k.args; counters = k.counters; get = omega (arith, l); entries = k.entries }
+  one_copy Entries x h = let k = more_copies n (n + 1) x (omega arith) h in let l = h.entries in record { pages = k.pages; beats = k.beats; records = k.records; args = k.args; counters = k.counters; get = k.get; entries = omega (arith, l) }
+  one_copy RecordCopy x h = let k = more_copies n (n + 1) x (omega arith) h in let l = h.records in record { pages = k.pages; beats = k.beats; records = omega (arith, l); args = k.args; counters = k.counters; get = k.get; entries = k.entries }
+  one_copy PageCopy x h = let k = more_copies n (n + 1) x (omega arith) h in let l = h.pages in record { pages = omega (arith, l); beats = k.beats; records = k.records; args = k.args; counters = k.counters; get = k.get; entries = k.entries }
+  one_copy BeatCopy x h = let k = more_copies n (n + 1) x (omega arith) h in let l = h.beats in record { pages = k.pages; beats = omega (arith, l); records = k.records; args = k.args; counters = k.counters; get = k.get; entries = k.entries }
   one_copy kind x h = more_copies n (n + 1) x (omega arith) h
 
   copy_counted : (o : Option Copied) (x : Copies) → AreCopiesCounted n x → AreCopiesCounted (n + 1) (counted o x)
@@ -83,6 +89,15 @@ module _ (n : ℕ) where
   one_put (ForPeer q m) a puts = omega arith
   one_put (Own m) a puts = omega arith
 
+-- a command raises the offline count by one at most
+offline_low : (o : Option Command) (count : ℕ) → or_zero (offline_by o count) ≤ count + 1
+offline_low (Some commands.Offline) count = omega arith
+offline_low (Some commands.Online) count = by (eqb count 0) where
+  by : (b : Bool) → or_zero (cond b None (Some (count - 1))) ≤ count + 1
+  by true = omega arith
+  by false = omega arith
+offline_low o count = omega arith
+
 module _ (s : ScenarioPart) (st : State) (n : ℕ) (h : AreCounted n st) where
   up : (q : ℕ) → IsPeerCounted (n + 1) (peer_of st q)
   up q = more_peer n (n + 1) (peer_of st q) (omega arith) (h.peers q)
@@ -95,7 +110,7 @@ module _ (s : ScenarioPart) (st : State) (n : ℕ) (h : AreCounted n st) where
   rule_peers (ForLink k c m) a q =
       let mark = mark_of s st (ForLink k c m) in
       let f = link_answered mark (place_for s c) (end_of st k c) m a in
-      at_peer (IsPeerCounted (n + 1)) st.peers k _ q (λ e. set_counted (n + 1) (peer_of st k) _ c f.local refl refl refl (linked n mark (place_for s c) (end_of st k c) m a ((h.peers k).ends c)) (up k)) (up q)
+      at_peer (IsPeerCounted (n + 1)) st.peers k _ q (λ e. set_counted (n + 1) (peer_of st k) _ c f.local refl refl refl refl (linked n mark (place_for s c) (end_of st k c) m a ((h.peers k).ends c)) (up k)) (up q)
   rule_peers (ForPeer k m) (Word w) q =
       let mark = mark_of s st (ForPeer k m) in
       let f = peer_answered (here_of s st k) mark (peer_of st k) m (Word w) in
@@ -103,7 +118,7 @@ module _ (s : ScenarioPart) (st : State) (n : ℕ) (h : AreCounted n st) where
   rule_peers (ForPeer k m) Failed q =
       let mark = mark_of s st (ForPeer k m) in
       let f = peer_answered (here_of s st k) mark (peer_of st k) m Failed in
-      at_peer (IsPeerCounted (n + 1)) st.peers k _ q (λ e. reasoned n f.reason (n + 1) f.local (failed n mark (peer_of st k) (h.peers k))) (up q)
+      at_peer (IsPeerCounted (n + 1)) st.peers k _ q (λ e. reasoned n f.reason (n + 1) f.local (failed n (here_of s st k).turn mark (peer_of st k) now (h.peers k))) (up q)
   rule_peers (Own ReadEngaged) (Word w) q = at_each (IsPeerCounted (n + 1)) (λ i p. (peer_read w i p).local) st.peers q (cold_peer Old) (freed n w q (peer_of st q) (h.peers q)) (λ l. cold_counted n (n + 1) Old)
   rule_peers (Own TakeDeactivation) (Word w) q = at_each (IsPeerCounted (n + 1)) (λ i p. (deactivation_heard w i p).local) st.peers q (cold_peer Old) (told n w q (peer_of st q) (h.peers q)) (λ l. cold_counted n (n + 1) Old)
   rule_peers (Own ReadStamp) (Word w) q = up q
@@ -112,7 +127,22 @@ module _ (s : ScenarioPart) (st : State) (n : ℕ) (h : AreCounted n st) where
   rule_peers (Own WriteStamp) (Word w) q = up q
   rule_peers (Own StoreMask) (Word w) q = up q
   rule_peers (Own TakeActivation) (Word w) q = up q
+  rule_peers (Own StoreBeat) (Word w) q = up q
+  rule_peers (Own StoreOffline) (Word w) q = up q
   rule_peers (Own m) Failed q = up q
+
+  asked_low : (b : Bool) → or_zero (cond b (offline_by (current s st) st.beats.offline) None) ≤ n + 1
+  asked_low true = let l = offline_low (current s st) st.beats.offline in let k = h.beats.offline in omega (arith, l, k)
+  asked_low false = omega arith
+
+  rule_beats : (r : Rule) (a : Answer) → IsBeatsCounted (n + 1) (beats_after s st r a)
+  rule_beats (Own StoreOffline) (Word w) = let l = h.script.begun in record { offline = asked_low (st.script.doing && not (has_stored st)); stored_for = omega (arith, l) }
+  rule_beats (Own StoreMask) (Word w) = let k = more_beats n (n + 1) st.beats (omega arith) h.beats in record { offline = k.offline; stored_for = k.stored_for }
+  rule_beats (Own StoreBeat) (Word w) = let k = more_beats n (n + 1) st.beats (omega arith) h.beats in record { offline = k.offline; stored_for = k.stored_for }
+  rule_beats (Own m) (Word w) = more_beats n (n + 1) st.beats (omega arith) h.beats
+  rule_beats (Own m) Failed = more_beats n (n + 1) st.beats (omega arith) h.beats
+  rule_beats (ForLink q c m) a = more_beats n (n + 1) st.beats (omega arith) h.beats
+  rule_beats (ForPeer q m) a = more_beats n (n + 1) st.beats (omega arith) h.beats
 
   pub step_counted : (r : Rule) (a : Answer) → AreCounted (n + 1) (after_answer s st r a)
   step_counted r a =
@@ -121,6 +151,7 @@ module _ (s : ScenarioPart) (st : State) (n : ℕ) (h : AreCounted n st) where
       let p = one_put n r a st.clock.puts in
       record {
         clock = record { boots = k.boots; turns = k.turns; puts = omega (arith, l, p); copies = copy_counted n (row_of s st r).copy st.clock.copies h.clock.copies };
+        beats = rule_beats r a;
         script = more_script n (n + 1) st.script (omega arith) h.script;
         peers = λ q. rule_peers r a q;
       }
@@ -156,18 +187,23 @@ module _ (s : ScenarioPart) (st : State) (n : ℕ) (h : AreCounted n st) where
 
   aim_peers : (m : ℕ) (o : Option Aim) → ((q : ℕ) → IsPeerCounted m (peer_of st q)) → IsAimCounted m o → (q : ℕ) → IsPeerCounted m (peer_of (with_aim o st) q)
   aim_peers m None all k q = all q
-  aim_peers m (Some y) all k q = at_peer (IsPeerCounted m) st.peers y.partner _ q (λ e. set_counted m (peer_of st y.partner) _ y.channel y.effect.local refl refl refl k (all y.partner)) (all q)
+  aim_peers m (Some y) all k q = at_peer (IsPeerCounted m) st.peers y.partner _ q (λ e. set_counted m (peer_of st y.partner) _ y.channel y.effect.local refl refl refl refl k (all y.partner)) (all q)
 
   aim_clock : (o : Option Aim) → (with_aim o st).clock ≡ st.clock
   aim_clock None = refl
   aim_clock (Some y) = refl
 
+  aim_beats : (o : Option Aim) → (with_aim o st).beats ≡ st.beats
+  aim_beats None = refl
+  aim_beats (Some y) = refl
+
   wanted_counted : (m : ℕ) (o : Option Command) (peers : List Peer) (q : ℕ) → IsPeerCounted m (peer_at peers q) → IsPeerCounted m (peer_at (peers_wanted o peers) q)
-  wanted_counted m o peers q k = wanted_at (IsPeerCounted m) o peers q (λ p x. record { count = x.count; cleared = x.cleared; ends = x.ends }) (λ p x. record { count = x.count; cleared = x.cleared; ends = x.ends }) k
+  wanted_counted m o peers q k = wanted_at (IsPeerCounted m) o peers q (λ p x. record { count = x.count; cleared = x.cleared; since = x.since; ends = x.ends }) (λ p x. record { count = x.count; cleared = x.cleared; since = x.since; ends = x.ends }) k
 
   acted_by : (m : ℕ) (x : Act) → n ≤ m → IsAimCounted m (aimed s st x) → IsScriptCounted m (after_act s st x).script → AreCounted m (after_act s st x)
   acted_by m x l k script = record {
     clock = subst (λ (c : Clock). IsClockCounted m c) (sym (aim_clock (aimed s st x))) (more_clock n m st.clock l h.clock);
+    beats = subst (λ (b : Beats). IsBeatsCounted m b) (sym (aim_beats (aimed s st x))) (more_beats n m st.beats l h.beats);
     script = script;
     peers = λ q. wanted_counted m (command_begun s st x) (with_aim (aimed s st x) st).peers q (aim_peers m (aimed s st x) (λ j. more_peer n m (peer_of st j) l (h.peers j)) k q);
   }
@@ -185,10 +221,11 @@ module _ (s : ScenarioPart) (st : State) (n : ℕ) (h : AreCounted n st) where
   moved : (m : ℕ) (b stops : Bool) (x : State) → IsClockCounted m (record x.clock { boots = x.clock.boots + 1 }) → AreCounted m x → AreCounted m (moment_by s b stops x)
   moved m true stops x c k = record {
     clock = c;
+    beats = record { offline = omega arith; stored_for = omega arith };
     script = record { begun = omega arith; since = omega arith };
     peers = λ q. at_each (IsPeerCounted m) (λ i p. booted_peer p) x.peers q (cold_peer Old) (booted m (peer_at x.peers q)) (λ l. cold_counted m m Old);
   }
-  moved m false true x c k = record { clock = k.clock; script = k.script; peers = k.peers }
+  moved m false true x c k = record { clock = k.clock; beats = k.beats; script = k.script; peers = k.peers }
   moved m false false x c k = k
 
   pub ended : (earlier : ℕ) → AreCounted (n + 1) (moment s earlier (turn_counted st))
@@ -200,7 +237,7 @@ module _ (s : ScenarioPart) (st : State) (n : ℕ) (h : AreCounted n st) where
       let b = h.clock.boots in
       moved (n + 1) (restart_comes s earlier x && not (is_over x)) (stop_comes s earlier x && not (is_over x)) x
       (record { boots = omega (arith, b); turns = omega (arith, t); puts = c.puts; copies = c.copies })
-      (record { clock = record { boots = c.boots; turns = omega (arith, t); puts = c.puts; copies = c.copies }; script = k.script; peers = k.peers })
+      (record { clock = record { boots = c.boots; turns = omega (arith, t); puts = c.puts; copies = c.copies }; beats = k.beats; script = k.script; peers = k.peers })
 
 -- ---- turns
 pub acts_counted : (s : ScenarioPart) (st : State) (acts : List Act) (n : ℕ) → AreCounted n st → AreCounted (n + calls_in acts) (after_acts s st acts)
@@ -219,8 +256,8 @@ turn_counts s st t n h =
 
 -- ---- the opening
 base_counted : (ls : List Link) → IsPeerCounted 1 (base_peer ls)
-base_counted [] = record { count = omega arith; cleared = λ turn e. absurd (cc); ends = λ c. subst (λ (x : End). IsEndCounted 1 x) (sym (idle_at c)) (idle_counted 1) }
-base_counted (l ∷ ls) = record { count = omega arith; cleared = λ turn e. absurd (cc); ends = λ c. subst (λ (x : End). IsEndCounted 1 x) (sym (idle_at c)) (idle_counted 1) }
+base_counted [] = record { count = omega arith; cleared = λ turn e. absurd (cc); since = omega arith; ends = λ c. subst (λ (x : End). IsEndCounted 1 x) (sym (idle_at c)) (idle_counted 1) }
+base_counted (l ∷ ls) = record { count = omega arith; cleared = λ turn e. absurd (cc); since = omega arith; ends = λ c. subst (λ (x : End). IsEndCounted 1 x) (sym (idle_at c)) (idle_counted 1) }
 
 first_counted : (n : ℕ) (ls : List Link) (q : ℕ) → IsPeerCounted 1 (peer_at (first_peers n ls) q)
 unfolding first_peers
@@ -236,6 +273,7 @@ warm_peer_counted : (new : Bool) (l : Link) (p : Peer) → IsPeerCounted 1 p →
 warm_peer_counted new l p h = record {
   count = omega arith;
   cleared = λ turn e. absurd (cc);
+  since = h.since;
   ends = λ c. at_slot (λ (x : End). IsEndCounted 1 x) (each (λ i e. first_met new e) 0 p.links) l.channel c (warm_end new l) idle_end (λ e. warm_counted 1 new l)
       (at_each (λ (x : End). IsEndCounted 1 x) (λ i e. first_met new e) p.links c idle_end (met_counted new (link_at p.links c) (h.ends c)) (λ k. idle_counted 1));
 }
@@ -246,7 +284,8 @@ links_counted new (l ∷ ls) peers h q = links_counted new ls (set peers l.partn
 
 opened_counted : (s : ScenarioPart) → AreCounted 1 (opened_state s)
 opened_counted s = record {
-  clock = record { boots = omega arith; turns = omega arith; puts = omega arith; copies = record { pages = omega arith; records = omega arith; args = omega arith; counters = omega arith; get = omega arith; entries = omega arith } };
+  clock = record { boots = omega arith; turns = omega arith; puts = omega arith; copies = record { pages = omega arith; beats = omega arith; records = omega arith; args = omega arith; counters = omega arith; get = omega arith; entries = omega arith } };
+  beats = record { offline = omega arith; stored_for = omega arith };
   script = record { begun = omega arith; since = omega arith };
   peers = λ q. links_counted (opened_new s) s.links (first_peers s.count s.links) (λ j. first_counted s.count s.links j) q;
 }

@@ -2,7 +2,7 @@
 -- raises by itself; a word that it loaded is none.
 use Rattle.std.specs.Prelude.{◌≡◌, ℕ, ◌+◌, ◌*◌, ◌≤◌, if◌then◌else◌, List, [], ◌∷◌, length, Some}
 use Rattle.xp_base.specs.History.{Act, Begun, Answered, Noticed, Turn}
-use Rattle.xp_protocol.specs.State.{State, Clock, Script, Copies, Peer, End, peer_of, link_at}
+use Rattle.xp_protocol.specs.State.{State, Beats, Clock, Script, Copies, Peer, End, peer_of, link_at}
 
 -- 1 where the close reply was sent: the epoch is over as soon as the partner's was got
 abbrev pub ending : End → ℕ
@@ -47,15 +47,18 @@ abbrev pub IsEndCounted : ℕ → End → Type 0
 IsEndCounted n e = AreEndCounts n (counts_of e)
 
 -- each count of a partner is n at most: how many times the own memory was opened for it in this
--- boot, the turn in which the own bit was cleared last, and the counts of the ends
+-- boot, the turn in which the own bit was cleared last, that of the contact or of the last check of
+-- its heartbeat, and the counts of the ends
 pub record IsPeerCounted (n : ℕ) (p : Peer) : Type 0 where
   pub count : p.engage.count ≤ n
   pub cleared : (turn : ℕ) → p.engage.cleared_at ≡ Some turn → turn ≤ n
+  pub since : p.watch.since ≤ n
   pub ends : (c : ℕ) → IsEndCounted n (link_at p.links c)
 
 -- the copies of each kind that were begun are n at most
 pub record AreCopiesCounted (n : ℕ) (x : Copies) : Type 0 where
   pub pages : x.pages ≤ n
+  pub beats : x.beats ≤ n
   pub records : x.records ≤ n
   pub args : x.args ≤ n
   pub counters : x.counters ≤ n
@@ -74,9 +77,15 @@ pub record IsScriptCounted (n : ℕ) (x : Script) : Type 0 where
   pub begun : x.begun ≤ n
   pub since : x.since ≤ n
 
+-- the same of the own heartbeat, whose count begins anew after the last one that a word can have
+pub record IsBeatsCounted (n : ℕ) (x : Beats) : Type 0 where
+  pub offline : x.offline ≤ n
+  pub stored_for : x.stored_for ≤ n
+
 -- each count of what a partition knows is n at most
 pub record AreCounted (n : ℕ) (st : State) : Type 0 where
   pub clock : IsClockCounted n st.clock
+  pub beats : IsBeatsCounted n st.beats
   pub script : IsScriptCounted n st.script
   pub peers : (q : ℕ) → IsPeerCounted n (peer_of st q)
 

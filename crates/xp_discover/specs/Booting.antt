@@ -8,8 +8,8 @@ use Rattle.xp_protocol.specs.declared.rule.PeerRule.TheVariants as peers
 use Rattle.xp_protocol.specs.declared.rule.OwnRule.TheVariants as own
 use Rattle.xp_protocol.specs.Effects.{Row}
 use Rattle.xp_protocol.specs.Wanting.{wanted_at}
-use Rattle.xp_protocol.specs.State.{State, Boot, Booting, no_boot, peer_of, cold_peer, Old}
-use Rattle.xp_protocol.specs.Peering.{peer_row, own_row, or_zero}
+use Rattle.xp_protocol.specs.State.{State, Boot, Booting, masked_beats, no_boot, peer_of, cold_peer, Old}
+use Rattle.xp_protocol.specs.Peering.{Mine, peer_row, own_row, or_zero}
 use Rattle.xp_script.specs.declared.part.ScenarioPart.{ScenarioPart}
 use Rattle.xp_discover.specs.declared.boot.BootAnswer.{BootAnswer}
 use Rattle.xp_discover.specs.declared.boot.BootAnswer.TheVariants.{Booted, Halted}
@@ -65,18 +65,22 @@ rule_for (ZeroMagic q) = rules.Peer q peers.ZeroMagic
 rule_for (ClearOldBit q) = rules.Peer q peers.ClearOldBit
 rule_for WriteStamp = rules.Own own.WriteStamp
 
+-- of the partition as a whole, the rules of a boot read no more than the boot
+abbrev pub booting : Boot → Mine
+booting boot = record { boot = boot; beats = masked_beats 0; begun = 0; offline = None }
+
 -- a step as the rule has it
 abbrev pub own_wanted : ℕ → Row → Wanted
 own_wanted own x = wanted_at own own x
 
 abbrev pub step_wanted : Starting → BootStep → Wanted
-step_wanted x ReadStamp = own_wanted x.own (own_row x.boot [] own.ReadStamp)
-step_wanted x ZeroMask = own_wanted x.own (own_row x.boot [] own.ZeroMask)
-step_wanted x ZeroOffline = own_wanted x.own (own_row x.boot [] own.ZeroOffline)
+step_wanted x ReadStamp = own_wanted x.own (own_row (booting x.boot) [] own.ReadStamp)
+step_wanted x ZeroMask = own_wanted x.own (own_row (booting x.boot) [] own.ZeroMask)
+step_wanted x ZeroOffline = own_wanted x.own (own_row (booting x.boot) [] own.ZeroOffline)
 step_wanted x (ZeroMagic q) = wanted_at x.own q (peer_row x.own 0 q (cold_peer Old) peers.ZeroMagic)
 step_wanted x (ClearOldBit q) =
     wanted_at x.own q (peer_row x.own 0 q (cold_peer Old) peers.ClearOldBit)
-step_wanted x WriteStamp = own_wanted x.own (own_row x.boot [] own.WriteStamp)
+step_wanted x WriteStamp = own_wanted x.own (own_row (booting x.boot) [] own.WriteStamp)
 
 abbrev pub wanted_for : Starting → Option BootStep → Option Wanted
 wanted_for x None = None

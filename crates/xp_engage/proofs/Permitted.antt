@@ -3,7 +3,7 @@ use Rattle.std.proofs.Common.{◌≡◌, ℕ, Bool, true, false, cond, [], ◌�
 use Rattle.std.specs.Prelude.{◌||◌, if◌then◌else◌, is_some, nat_lt, Option, Some, None}
 use Rattle.xp_script.specs.declared.part.ScenarioPart.{ScenarioPart}
 use Rattle.xp_protocol.specs.declared.rule.PeerRule.{PeerRule}
-use Rattle.xp_protocol.specs.declared.rule.PeerRule.TheVariants.{AskActivation, TakeFlags, CloseArea, ZeroMagic, ClearOldBit, Prepare, OpenArea, SetEngagementBit, ReadRecord, StoreEcho, StoreSecond, ClearEngagementBit, LookAtPage, ClearDeactivationBit, TellPartner}
+use Rattle.xp_protocol.specs.declared.rule.PeerRule.TheVariants.{AskActivation, TakeFlags, CloseArea, ZeroMagic, ClearOldBit, Prepare, OpenArea, SetEngagementBit, ReadRecord, StoreEcho, StoreSecond, ClearEngagementBit, LookAtPage, CheckBeat, ClearDeactivationBit, TellPartner}
 use Rattle.xp_protocol.specs.declared.rule.Rule.{Rule}
 use Rattle.xp_protocol.specs.declared.rule.Rule.TheVariants.{Peer as ForPeer}
 use Rattle.xp_base.specs.declared.step.CopyMark.{CopyMark}
@@ -32,6 +32,7 @@ record Knows (x : Partner) (turn : ℕ) (copying : Bool) (y : Here) (p : Peer) :
   look : p.look ≡ x.look
   engage : p.engage ≡ x.engage
   contact : p.contact ≡ x.contact
+  watch : p.watch ≡ x.watch
   copies : copies_go_on p ≡ (copying || is_some x.engage.reading)
 
 peer_permitted :
@@ -52,11 +53,12 @@ peer_permitted x turn copying y p ClearEngagementBit h can made up =
     let c : copies_go_on p ≡ false = h.copies ∙ (sym (copies_known copying x) ∙ can.1) in
     (rw h.engage can.0, c, rw h.engage can.2)
 peer_permitted x turn copying y p LookAtPage h can made up = absurd (cc)
+peer_permitted x turn copying y p CheckBeat h can made up = rw (h.here, h.engage, h.watch) can
 peer_permitted x turn copying y p ClearDeactivationBit h can made up = rw h.engage can
 peer_permitted x turn copying y p TellPartner h can made up = rw h.engage can
 
 knows : (x : Partner) (turn : ℕ) (copying : Bool) (s : ScenarioPart) (st : State) → IsStateOf x turn copying s st → Knows x turn copying (here_of s st x.partner) (peer_of st x.partner)
-knows x turn copying s st h = record { here = h.here; wanted = h.wanted; look = h.look; engage = h.engage; contact = h.contact; copies = h.copies }
+knows x turn copying s st h = record { here = h.here; wanted = h.wanted; look = h.look; engage = h.engage; contact = h.contact; watch = h.watch; copies = h.copies }
 
 pub can_now :
     (x : Partner) (turn : ℕ) (copying : Bool) (s : ScenarioPart) (st : State) (m : PeerRule) → IsStateOf x turn copying s st → peer_can (here turn x) (alone_by copying x) m →
@@ -64,22 +66,23 @@ pub can_now :
 can_now x turn copying s st m h can made up = (h.life ∙ sym up, (record { low = h.partner; other = λ e. h.other (e ∙ h.part) }, peer_permitted x turn copying (here_of s st x.partner) (peer_of st x.partner) m (knows x turn copying s st h) can made up))
 
 -- its word is the same
-row_known : (x : Partner) (stamp : ℕ) (p : Peer) (m : PeerRule) → p.engage ≡ x.engage → stamp ≡ x.stamp → is_made m ≡ true → peer_row x.own stamp x.partner p m ≡ peer_row x.own x.stamp x.partner (alone x) m
-row_known x stamp p AskActivation e t made = refl
-row_known x stamp p TakeFlags e t made = absurd (cc)
-row_known x stamp p CloseArea e t made = refl
-row_known x stamp p ZeroMagic e t made = refl
-row_known x stamp p ClearOldBit e t made = refl
-row_known x stamp p (Prepare y) e t made = rw (e, t) refl
-row_known x stamp p OpenArea e t made = refl
-row_known x stamp p SetEngagementBit e t made = refl
-row_known x stamp p ReadRecord e t made = rw e refl
-row_known x stamp p StoreEcho e t made = rw e refl
-row_known x stamp p StoreSecond e t made = refl
-row_known x stamp p ClearEngagementBit e t made = refl
-row_known x stamp p LookAtPage e t made = absurd (cc)
-row_known x stamp p ClearDeactivationBit e t made = refl
-row_known x stamp p TellPartner e t made = refl
+row_known : (x : Partner) (stamp : ℕ) (p : Peer) (m : PeerRule) → p.engage ≡ x.engage → p.watch ≡ x.watch → stamp ≡ x.stamp → is_made m ≡ true → peer_row x.own stamp x.partner p m ≡ peer_row x.own x.stamp x.partner (alone x) m
+row_known x stamp p AskActivation e v t made = refl
+row_known x stamp p TakeFlags e v t made = absurd (cc)
+row_known x stamp p CloseArea e v t made = refl
+row_known x stamp p ZeroMagic e v t made = refl
+row_known x stamp p ClearOldBit e v t made = refl
+row_known x stamp p (Prepare y) e v t made = rw (e, t) refl
+row_known x stamp p OpenArea e v t made = refl
+row_known x stamp p SetEngagementBit e v t made = refl
+row_known x stamp p ReadRecord e v t made = rw e refl
+row_known x stamp p StoreEcho e v t made = rw e refl
+row_known x stamp p StoreSecond e v t made = refl
+row_known x stamp p ClearEngagementBit e v t made = refl
+row_known x stamp p LookAtPage e v t made = absurd (cc)
+row_known x stamp p CheckBeat e v t made = rw v refl
+row_known x stamp p ClearDeactivationBit e v t made = refl
+row_known x stamp p TellPartner e v t made = refl
 
 -- and so is the step that is wanted, but for the number of its copy
 unmarked_mark : (st : State) (r : Rule) (o : Option Copied) → mark_with 0 o ≡ unmarked (mark_for st r o)
@@ -94,7 +97,7 @@ pub wanted_now :
     step_wanted x m ≡ unnumbered (wanted_of s st (ForPeer x.partner m))
 wanted_now x turn copying s st m h made =
     let stamp : st.stamp ≡ x.stamp = ap (λ (y : Here). y.stamp) h.here in
-    rw h.part (wanted_by x.own x.partner st (ForPeer x.partner m) (row_for x m) (peer_row x.own st.stamp x.partner (peer_of st x.partner) m) (row_known x st.stamp (peer_of st x.partner) m h.engage stamp made))
+    rw h.part (wanted_by x.own x.partner st (ForPeer x.partner m) (row_for x m) (peer_row x.own st.stamp x.partner (peer_of st x.partner) m) (row_known x st.stamp (peer_of st x.partner) m h.engage h.watch stamp made))
 
 abbrev rule_in : PeerRule → Option PeerRule → PeerRule
 rule_in m None = m

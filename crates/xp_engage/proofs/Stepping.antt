@@ -5,7 +5,7 @@ use Rattle.std.specs.Prelude.{Option, Some, None, is_some, not, ◌&&◌}
 use Rattle.xp_base.specs.declared.reason.Reason.{Reason}
 use Rattle.xp_base.specs.declared.step.Answer.TheVariants.{Word}
 use Rattle.xp_protocol.specs.declared.rule.PeerRule.{PeerRule}
-use Rattle.xp_protocol.specs.declared.rule.PeerRule.TheVariants.{AskActivation, TakeFlags, CloseArea, ZeroMagic, ClearOldBit, Prepare, OpenArea, SetEngagementBit, ReadRecord, StoreEcho, StoreSecond, ClearEngagementBit, LookAtPage, ClearDeactivationBit, TellPartner}
+use Rattle.xp_protocol.specs.declared.rule.PeerRule.TheVariants.{AskActivation, TakeFlags, CloseArea, ZeroMagic, ClearOldBit, Prepare, OpenArea, SetEngagementBit, ReadRecord, StoreEcho, StoreSecond, ClearEngagementBit, LookAtPage, CheckBeat, ClearDeactivationBit, TellPartner}
 use Rattle.xp_protocol.specs.Effects.{Effect, Note, first_reason, just}
 use Rattle.xp_protocol.specs.State.{End, Peer, is_begun, link_at}
 use Rattle.xp_protocol.specs.Linking.{close_now, link_down}
@@ -35,9 +35,9 @@ left_none : (o : Option Reason) (p : Peer) → (area_left_for o p).reason ≡ No
 left_none None p = refl
 left_none (Some r) p = links_none (λ c e. link_down r e) (λ c e. down_none r e) p
 
-contact_none : (stamp : ℕ) (p : Peer) → (try_contact stamp p).reason ≡ None
-contact_none stamp p = by (p.engage.second && (p.engage.shown && not (is_some p.contact))) where
-  by : (b : Bool) → (cond b (contact_made stamp p) (same_peer p)).reason ≡ None
+contact_none : (turn stamp : ℕ) (p : Peer) → (try_contact turn stamp p).reason ≡ None
+contact_none turn stamp p = by (p.engage.second && (p.engage.shown && not (is_some p.contact))) where
+  by : (b : Bool) → (cond b (contact_made turn stamp p) (same_peer p)).reason ≡ None
   by true = refl
   by false = refl
 
@@ -56,9 +56,10 @@ made_alike turn x OpenArea w h c = record { partner = refl; reason = refl }
 made_alike turn x SetEngagementBit w h c = record { partner = refl; reason = refl }
 made_alike turn x ReadRecord w h c = absurd (cc)
 made_alike turn x StoreEcho w h c = record { partner = refl; reason = refl }
-made_alike turn x StoreSecond w h c = record { partner = refl; reason = contact_none x.stamp (record (alone x) { engage = record x.engage { second = true } }) }
+made_alike turn x StoreSecond w h c = record { partner = refl; reason = contact_none turn x.stamp (record (alone x) { engage = record x.engage { second = true } }) }
 made_alike turn x ClearEngagementBit w h c = record { partner = refl; reason = refl }
 made_alike turn x LookAtPage w h c = absurd (cc)
+made_alike turn x CheckBeat w h c = absurd (cc)
 made_alike turn x ClearDeactivationBit w h c = record { partner = refl; reason = refl }
 made_alike turn x TellPartner w h c = record { partner = refl; reason = refl }
 

@@ -1,7 +1,7 @@
 -- Which step for the partner comes next, by the plan of a partition's turns: it is left where there
 -- is a reason, else the own memory for it is prepared, the own bit set, the partner
 -- answered, and its record read.
-use Rattle.std.specs.Prelude.{ℕ, Bool, Option, Some, None}
+use Rattle.std.specs.Prelude.{ℕ, ◌+◌, Bool, ◌&&◌, Option, Some, None, nat_eq, nat_le}
 use Rattle.xp_base.specs.declared.step.Wanted.{Wanted}
 use Rattle.xp_protocol.specs.declared.rule.PeerRule.{PeerRule}
 use Rattle.xp_protocol.specs.declared.rule.Rule.{Rule}
@@ -16,6 +16,10 @@ for_partner None = None
 for_partner (Some (Peer q m)) = Some m
 for_partner (Some (Own m)) = None
 for_partner (Some (Link q c m)) = None
+
+-- a check of the partner's heartbeat is begun by the first step of an errand, where it is due
+abbrev pub check_begins : ℕ → ℕ → Partner → Bool
+check_begins used turn x = nat_eq used 0 && nat_le (x.watch.since + x.check) turn
 
 -- the step for the partner that comes next in a turn. `copying` says whether another copy of the
 -- partner's words goes on than that of its record

@@ -10,20 +10,22 @@ use Rattle.xp_script.specs.declared.part.ScenarioPart.{ScenarioPart}
 use Rattle.xp_protocol.specs.declared.contact.Look.{Look}
 use Rattle.xp_protocol.specs.declared.contact.Look.TheVariants.{Unseen}
 use Rattle.xp_protocol.specs.declared.rule.PeerRule.{PeerRule}
-use Rattle.xp_protocol.specs.declared.rule.PeerRule.TheVariants.{TakeFlags, LookAtPage, ReadRecord, Prepare, OpenArea}
+use Rattle.xp_protocol.specs.declared.rule.PeerRule.TheVariants.{TakeFlags, LookAtPage, ReadRecord, CheckBeat, Prepare, OpenArea}
 use Rattle.xp_protocol.specs.Effects.{Effect, Note, Row}
-use Rattle.xp_protocol.specs.State.{State, Up, Peer, peer_of, Engage, Contact, warm_engage, booted_engage, first_contact, idle_links, none_going, are_new}
+use Rattle.xp_protocol.specs.State.{State, Up, Peer, peer_of, Engage, Contact, Watch, new_watch, no_numbers, warm_engage, booted_engage, first_contact, idle_links, none_going, are_new}
 use Rattle.xp_protocol.specs.Peering.{Here, peer_can, peer_row, peer_effect, copies_go_on, IsAreaWord}
 use Rattle.xp_protocol.specs.Rules.{here_of, peer_answered, peer_life}
 use Rattle.xp_protocol.specs.Wanting.{mark_with, wanted_at}
 
 -- the partition and the partner by their numbers, the own version, for how many turns backing off
--- lasts, the stamp of the boot, and whether the mask that was stored has the partner's bit
+-- lasts, how many lie between two checks of the partner's heartbeat, 0 for no checks, the stamp of
+-- the boot, and whether the mask that was stored has the partner's bit
 pub record Partner : Type 0 where
   pub own : ℕ
   pub partner : ℕ
   pub version : ℕ
   pub wait : ℕ
+  pub check : ℕ
   pub stamp : ℕ
   pub masked : Bool
   pub wanted : Bool
@@ -32,15 +34,17 @@ pub record Partner : Type 0 where
   pub flags_seen : ℕ
   pub engage : Engage
   pub contact : Option Contact
+  pub watch : Watch
 
 -- a partner in a boot, one of a partition that opens booted, and one that is in contact then, of
 -- which the version is known
-abbrev pub new_partner : ℕ → ℕ → ℕ → ℕ → Engage → ℕ → Partner
-new_partner own partner version stamp engage window = record {
+abbrev pub new_partner : ℕ → ℕ → ℕ → ℕ → Engage → ℕ → ℕ → Partner
+new_partner own partner version stamp engage window check = record {
   own = own;
   partner = partner;
   version = version;
   wait = 2 * window;
+  check = check;
   stamp = stamp;
   masked = false;
   wanted = true;
@@ -49,16 +53,17 @@ new_partner own partner version stamp engage window = record {
   flags_seen = 0;
   engage = engage;
   contact = None;
+  watch = new_watch 0;
 }
 
 -- a partner in a boot that has just begun
 abbrev pub booted_partner : Partner → Partner
 booted_partner x =
-    record (new_partner x.own x.partner x.version x.stamp booted_engage 0) { wait = x.wait }
+    record (new_partner x.own x.partner x.version x.stamp booted_engage 0 x.check) { wait = x.wait }
 
-abbrev pub warm_partner : ℕ → ℕ → ℕ → ℕ → ℕ → Partner
-warm_partner own partner version theirs window =
-    record (new_partner own partner version 1 warm_engage window) {
+abbrev pub warm_partner : ℕ → ℕ → ℕ → ℕ → ℕ → ℕ → Partner
+warm_partner own partner version theirs window check =
+    record (new_partner own partner version 1 warm_engage window check) {
       masked = true;
       both_new = are_new version theirs;
       contact = Some first_contact;
@@ -73,9 +78,10 @@ alone_by copying x = record {
   paging = if copying then 0 ∷ [] else [];
   both_new = x.both_new;
   flags_seen = x.flags_seen;
-  numbers = record { pages = 0; records = 0 };
+  numbers = no_numbers;
   engage = x.engage;
   contact = x.contact;
+  watch = x.watch;
   links = idle_links;
   going = none_going;
 }
@@ -91,6 +97,7 @@ seen_in x p = record x {
   flags_seen = p.flags_seen;
   engage = p.engage;
   contact = p.contact;
+  watch = p.watch;
 }
 
 -- what a step reads besides
@@ -100,6 +107,7 @@ here turn x = record {
   version = x.version;
   turn = turn;
   wait = x.wait;
+  check = x.check;
   masked = x.masked;
   stamp = x.stamp;
   read = true;
@@ -129,8 +137,8 @@ made turn x m w = seen_in x (peer_effect (here turn x) (alone x) m w).local
 abbrev pub step_reason : ℕ → Partner → PeerRule → Answer → Option Reason
 step_reason turn x m a = (effect_on turn x m a).reason
 
--- the steps that this makes: all for a partner but the take of its flags and the looks at its page,
--- of which a failed load is one of a copy of the record
+-- the steps that this makes: all for a partner but the take of its flags and the looks at its page.
+-- A load that may fail is one of a copy of the record, or of a check of the heartbeat
 abbrev pub is_made : PeerRule → Bool
 is_made TakeFlags = false
 is_made LookAtPage = false
@@ -138,6 +146,7 @@ is_made m = true
 
 abbrev pub is_copy : PeerRule → Bool
 is_copy ReadRecord = true
+is_copy CheckBeat = true
 is_copy m = false
 
 -- a word that is stored before the memory is opened is one of the memory's, and a session is left
@@ -175,6 +184,7 @@ pub record IsStateOf (x : Partner) (turn : ℕ) (copying : Bool) (s : ScenarioPa
   pub look : (peer_of st x.partner).look ≡ x.look
   pub engage : (peer_of st x.partner).engage ≡ x.engage
   pub contact : (peer_of st x.partner).contact ≡ x.contact
+  pub watch : (peer_of st x.partner).watch ≡ x.watch
   pub copies : copies_go_on (peer_of st x.partner) ≡ (copying || is_some x.engage.reading)
 
 -- a step with its copy's number left out

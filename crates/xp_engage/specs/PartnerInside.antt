@@ -53,6 +53,7 @@ partner_seen x = record {
   partner = x.partner;
   version = x.version;
   wait = x.wait;
+  check = x.check;
   stamp = x.stamp;
   masked = x.masked;
   wanted = x.wanted;
@@ -61,6 +62,7 @@ partner_seen x = record {
   flags_seen = x.flags_seen;
   engage = engage_seen x;
   contact = x.contact;
+  watch = x.watch;
 }
 
 -- a copy of the record that goes on has loaded some words, and not all

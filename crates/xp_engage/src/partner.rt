@@ -1,10 +1,8 @@
 // What is kept for a partner, as a machine.
-ghost use Rattle.std.specs.Prelude.{◌≡◌, ◌&&◌, nat_lt, Bool, ℕ, ◌<◌, ◌*◌, ◌-◌, ◌^◌, IfSome, IsSome, is_some, Some, None, true, false};
+ghost use Rattle.std.specs.Prelude.{◌≡◌, ◌≤◌, ◌+◌, ◌&&◌, nat_eq, nat_le, nat_lt, Bool, ℕ, ◌<◌, ◌*◌, ◌-◌, ◌^◌, IfSome, IsSome, is_some, Some, None, true, false};
 ghost use Rattle.xp_protocol.specs.State.{Off, are_new, booted_engage, cold_engage};
 ghost use Rattle.xp_base.specs.declared.step.OpKind.TheVariants.{Or, Store};
 ghost use Rattle.xp_base.specs.declared.layout.TheConstants.{RECORD_WORDS};
-ghost use Rattle.xp_base.specs.declared.reason.Reason.TheVariants.{CopyError};
-ghost use Rattle.xp_base.specs.declared.step.CopyKind.TheVariants.{Record as RecordCopies};
 ghost use Rattle.xp_script.specs.declared.part.ScenarioPart.{ScenarioPart};
 ghost use Rattle.xp_protocol.specs.State.{State};
 ghost use Rattle.xp_protocol.specs.declared.rule.PeerRule.{PeerRule};
@@ -13,21 +11,22 @@ ghost use Rattle.xp_protocol.specs.Rules.{Can, wanted_of};
 ghost use Rattle.xp_protocol.specs.Peering.{is_good, IsAreaWord, field_number, field_word, may_open, is_off, is_prepared, copies_go_on, try_contact, magic_read, place_read, last_read, record_read, is_wrong, look_reason, freed_engage, end_reason};
 ghost use Rattle.xp_engage.specs.PartnerInside.{area_seen, going};
 ghost use Rattle.xp_engage.specs.Partner.{new_partner, warm_partner, booted_partner, alone, alone_by, seen_in, here, step_wanted, made, stepped, step_reason, is_made, is_copy, IsStorable, IsPermitted, IsMade, MayAnswer, IsStateOf, unnumbered};
-ghost use Rattle.xp_plan.specs.PeerSteps.{prepare_at, engage_at, answer_at, record_at, leave_at, is_open_to, has_waited};
-ghost use Rattle.xp_engage.specs.Next.{partner_next, for_partner, wanted_for};
+ghost use Rattle.xp_plan.specs.PeerSteps.{prepare_at, engage_at, answer_at, record_at, check_at, leave_at, is_open_to, has_waited};
+ghost use Rattle.xp_engage.specs.Next.{partner_next, for_partner, wanted_for, check_begins};
 ghost use Rattle.xp_engage.specs.Learning.{faulted, fed, wanted_as, shown_by, stamp_shown, looked_at, heard, engaged_by, flags_noted, is_freed, sessions_of, state_told};
 
 use crate::area::{AreaState, Exchange, OwnArea, OwnBit, PartnerState, RecordCopy, StoredWords};
 use std::marker::Model;
 use xp_base::ids::{Channel, PartId};
 use xp_base::layout::{
-    ACTIVATION, CHANNELS, DEACTIVATION, ENGAGED, FIRST, LINES_VERSION, RECORD_WORDS, SECOND,
+    ACTIVATION, BEAT, CHANNELS, DEACTIVATION, ENGAGED, FIRST, LINES_VERSION, RECORD_WORDS, SECOND,
 };
 use xp_base::masks::{bit, contains};
 use xp_base::places::{args, counters, flag_word, record};
 use xp_base::reason::Reason;
 use xp_base::session::Session;
 use xp_base::step::{Answer, CopyKind, CopyMark, Op, OpKind, Wanted};
+use xp_beat::watch::Watch;
 use xp_discover::look::LookAnswer;
 use xp_protocol::contact::{Contact, Look, PartnerState as Standing};
 use xp_protocol::rule::{AreaWord, OwnRule, PeerRule, RecordField, Rule};
@@ -42,6 +41,8 @@ pub struct PartnerEnd {
     version: u64,
     /// For how many turns no engagement bit is set after it was cleared.
     wait: u64,
+    /// How many turns lie between two checks of the partner's heartbeat, 0 for no checks.
+    check: u64,
     /// The stamp of this boot.
     stamp: u32,
     /// Whether the heartbeat mask that was stored last has the partner's bit.
@@ -59,6 +60,7 @@ pub struct PartnerEnd {
     bit: OwnBit,
     exchange: Exchange,
     contact: Option<Contact>,
+    watch: Watch,
 }
 
 impl Model for PartnerEnd {
@@ -93,7 +95,7 @@ const NO_EXCHANGE: Exchange = Exchange {
 const FIRST_SESSION: Session = Session { stamp: 1, count: 1 };
 
 impl PartnerEnd {
-    // A partner with the own memory in this state.
+    // A partner with the own memory in this state, whose heartbeat isn't checked.
     fn cold(
         own: PartId,
         partner: PartId,
@@ -105,13 +107,14 @@ impl PartnerEnd {
     ) -> PartnerEnd
         requires { 2 * window < 2 ^ 64 }
         ensures { result ≡ new_partner own partner version stamp (record (cold_engage
-            (area_seen state)) { zeroed = booted; cleared = booted }) window }
+            (area_seen state)) { zeroed = booted; cleared = booted }) window 0 }
     {
         PartnerEnd {
             own,
             partner,
             version,
             wait: 2 * window,
+            check: 0,
             stamp,
             masked: false,
             wanted: true,
@@ -137,35 +140,56 @@ impl PartnerEnd {
             },
             exchange: NO_EXCHANGE,
             contact: None,
+            watch: Watch::new(0),
         }
     }
 
     /// A partner in a boot of this stamp: the own memory for it is as a former boot left it.
     /// `version` is the word of the own version, and `window` the scenario's: no engagement bit is
-    /// set within two windows after it was cleared.
-    pub fn new(own: PartId, partner: PartId, version: u64, stamp: u32, window: u64) -> PartnerEnd
+    /// set within two windows after it was cleared. `check` turns lie between two checks of the
+    /// partner's heartbeat, 0 for no checks.
+    pub fn new(
+        own: PartId,
+        partner: PartId,
+        version: u64,
+        stamp: u32,
+        window: u64,
+        check: u64,
+    ) -> PartnerEnd
         requires { 2 * window < 2 ^ 64 }
-        ensures { result ≡ new_partner own partner version stamp booted_engage window }
+        ensures { result ≡ new_partner own partner version stamp booted_engage window check }
     {
-        PartnerEnd::cold(own, partner, version, stamp, window, AreaState::Old, false)
+        let mut end = PartnerEnd::cold(own, partner, version, stamp, window, AreaState::Old, false);
+        end.check = check;
+        end
     }
 
     /// A partner that isn't in contact, of a partition that opens booted.
-    pub fn off(own: PartId, partner: PartId, version: u64, window: u64) -> PartnerEnd
+    pub fn off(own: PartId, partner: PartId, version: u64, window: u64, check: u64) -> PartnerEnd
         requires { 2 * window < 2 ^ 64 }
-        ensures { result ≡ new_partner own partner version 1 (cold_engage Off) window }
+        ensures { result ≡ new_partner own partner version 1 (cold_engage Off) window check }
     {
-        PartnerEnd::cold(own, partner, version, 1, window, AreaState::Off, true)
+        let mut end = PartnerEnd::cold(own, partner, version, 1, window, AreaState::Off, true);
+        end.check = check;
+        end
     }
 
     /// A partner that is in contact at the opening; `theirs` is the word of its version.
-    pub fn warm(own: PartId, partner: PartId, version: u64, theirs: u64, window: u64) -> PartnerEnd
+    pub fn warm(
+        own: PartId,
+        partner: PartId,
+        version: u64,
+        theirs: u64,
+        window: u64,
+        check: u64,
+    ) -> PartnerEnd
         requires { 2 * window < 2 ^ 64 }
-        ensures { result ≡ warm_partner own partner version theirs window }
+        ensures { result ≡ warm_partner own partner version theirs window check }
     {
         let cold = PartnerEnd::cold(own, partner, version, 1, window, AreaState::Ready, true);
         let word = FIRST_SESSION.word();
         PartnerEnd {
+            check,
             masked: true,
             both_new: are_new(version, theirs),
             state: Standing::Active,
@@ -188,6 +212,7 @@ impl PartnerEnd {
                 own: FIRST_SESSION,
                 theirs: FIRST_SESSION,
             }),
+            watch: Watch::new(0),
             ..cold
         }
     }
@@ -340,8 +365,33 @@ impl PartnerEnd {
         }
     }
 
-    /// The step for the partner that comes next in this turn, whatever its errand; `copying` tells
-    /// whether another copy of the partner's words goes on than that of its record.
+    // Whether a check is begun by an errand that has used so many turns.
+    fn begins_check(&self, used: u8, turn: u64) -> bool
+        ensures value { result ≡ check_begins used turn self.now }
+        ensures due { result ≡ true → self.now.watch.since + self.now.check ≤ turn }
+    {
+        used == 0 && self.watch.is_due(self.check, turn)
+    }
+
+    /// The heartbeat of a partner in contact is checked, where checks are planned. A check is begun
+    /// by the first step of an errand, once it is due, and made to its end.
+    pub fn check_step(&self, used: u8, turn: u64) -> Option<PeerRule>
+        ensures value { result ≡ check_at (here turn self.now) used (alone self.now) }
+        ensures permitted { (copying : Bool) →
+            IfSome result (λ m. IsPermitted turn copying self.now m) }
+    {
+        let may_check = self.is_open() && matches!(self.state, Standing::Active) && self.check > 0;
+        let loaded = self.watch.len();
+        if may_check && (loaded > 0 || self.begins_check(used, turn)) {
+            Some(PeerRule::CheckBeat)
+        } else {
+            None
+        }
+    }
+
+    /// The step for the partner that comes next in this turn, whatever its errand but that of a
+    /// check; `copying` tells whether another copy of the partner's words goes on than that of its
+    /// record.
     pub fn plan(&self, turn: u64, copying: bool) -> Option<PeerRule>
         ensures value { result ≡ partner_next turn copying self.now }
         ensures permitted { IfSome result (λ m. IsPermitted turn copying self.now m) }
@@ -433,6 +483,7 @@ impl PartnerEnd {
                 self.store(record(self.partner, 2), self.exchange.read.unwrap_or(0))
             }
             PeerRule::Prepare(word) => self.prepare(word),
+            PeerRule::CheckBeat => self.load_beat(),
             PeerRule::ReadRecord | PeerRule::TakeFlags | PeerRule::LookAtPage => self.load_record(),
         }
     }
@@ -526,6 +577,25 @@ impl PartnerEnd {
         }
     }
 
+    // The next word of the partner's heartbeat is loaded.
+    fn load_beat(&self) -> Wanted
+        ensures { result ≡ step_wanted self.now PeerRule.CheckBeat }
+    {
+        let word = self.watch.len() as u32;
+        Wanted {
+            op: Op {
+                owner: self.partner,
+                index: BEAT + word,
+                kind: OpKind::Load,
+            },
+            mark: Some(CopyMark {
+                kind: CopyKind::Beat,
+                number: 0,
+                word,
+            }),
+        }
+    }
+
     // The next word of the partner's record is loaded.
     fn load_record(&self) -> Wanted
         ensures { result ≡ step_wanted self.now PeerRule.ReadRecord }
@@ -589,15 +659,15 @@ impl PartnerEnd {
         ensures reason { result ≡ step_reason turn self.old rule answer }
     {
         match answer {
-            Answer::Failed => self.fail(),
-            Answer::Word(word) => {
-                if let PeerRule::ReadRecord = rule {
-                    self.read_record(word)
-                } else {
+            Answer::Failed => self.fail(rule, turn),
+            Answer::Word(word) => match rule {
+                PeerRule::ReadRecord => self.read_record(turn, word),
+                PeerRule::CheckBeat => self.watch.add(self.own, turn, word),
+                _ => {
                     self.make(rule, turn);
                     None
                 }
-            }
+            },
         }
     }
 
@@ -617,12 +687,20 @@ impl PartnerEnd {
         }
     }
 
-    // A load of the copy of the record failed: the copy is over.
-    fn fail(&mut self) -> Option<Reason>
-        ensures partner { self.new
-            ≡ record self.old { engage = record self.old.engage { reading = None } } }
-        ensures reason { result ≡ Some (CopyError RecordCopies 0) }
+    // A load of a copy failed: the copy is over.
+    fn fail(&mut self, rule: PeerRule, turn: u64) -> Option<Reason>
+        requires made { is_made rule ≡ true }
+        requires copy { is_copy rule ≡ true }
+        ensures partner { self.new ≡ stepped turn self.old rule Answer.Failed }
+        ensures reason { result ≡ step_reason turn self.old rule Answer.Failed }
     {
+        if let PeerRule::CheckBeat = rule {
+            self.watch.fail(turn);
+            return Some(Reason::CopyError {
+                kind: CopyKind::Beat,
+                number: 0,
+            });
+        }
         self.exchange.copy = None;
         Some(Reason::CopyError {
             kind: CopyKind::Record,
@@ -652,11 +730,14 @@ impl PartnerEnd {
             }
             PeerRule::StoreSecond => {
                 self.area.second = true;
-                self.try_contact();
+                self.try_contact(turn);
             }
             PeerRule::ClearEngagementBit => self.disengage(turn),
             PeerRule::CloseArea => self.leave(),
-            PeerRule::ReadRecord | PeerRule::TakeFlags | PeerRule::LookAtPage => {}
+            PeerRule::ReadRecord
+            | PeerRule::CheckBeat
+            | PeerRule::TakeFlags
+            | PeerRule::LookAtPage => {}
         }
     }
 
@@ -724,12 +805,15 @@ impl PartnerEnd {
             self.state = Standing::Deactivating;
             self.exchange.copy = None;
             self.bit.back_off = false;
+            self.watch.stop();
         }
     }
 
-    // There is contact where both have stored their second magic and seen each other's session.
-    fn try_contact(&mut self)
-        ensures { self.new ≡ seen_in self.old (try_contact self.old.stamp (alone self.old)).local }
+    // There is contact where both have stored their second magic and seen each other's session. The
+    // partner's heartbeat is watched from this turn on.
+    fn try_contact(&mut self, turn: u64)
+        ensures { self.new
+            ≡ seen_in self.old (try_contact turn self.old.stamp (alone self.old)).local }
     {
         if self.area.second && self.exchange.shown && self.contact.is_none() {
             self.state = Standing::Active;
@@ -740,16 +824,17 @@ impl PartnerEnd {
                 },
                 theirs: Session::of_word(self.exchange.echo.unwrap_or(0)),
             });
+            self.watch = Watch::new(turn);
         }
     }
 }
 
 // The copy of the partner's record.
 impl PartnerEnd {
-    // The next word was loaded.
-    fn read_record(&mut self, word: u64) -> Option<Reason>
-        ensures partner { self.new ≡ made 0 self.old PeerRule.ReadRecord word }
-        ensures reason { result ≡ (record_read (here 0 self.old)
+    // The next word was loaded in this turn.
+    fn read_record(&mut self, turn: u64, word: u64) -> Option<Reason>
+        ensures partner { self.new ≡ made turn self.old PeerRule.ReadRecord word }
+        ensures reason { result ≡ (record_read (here turn self.old)
             (alone self.old) self.old.engage.reading word).reason }
     {
         match self.exchange.copy {
@@ -769,7 +854,7 @@ impl PartnerEnd {
                     None
                 }
                 7 => {
-                    self.end_copy(copy);
+                    self.end_copy(turn, copy);
                     None
                 }
                 _ => self.read_place(copy, word),
@@ -823,9 +908,9 @@ impl PartnerEnd {
         None
     }
 
-    // The last word was loaded.
-    fn end_copy(&mut self, copy: RecordCopy)
-        ensures { self.new ≡ seen_in self.old (last_read self.old.stamp (alone self.old)
+    // The last word was loaded in this turn.
+    fn end_copy(&mut self, turn: u64, copy: RecordCopy)
+        ensures { self.new ≡ seen_in self.old (last_read turn self.old.stamp (alone self.old)
             (going copy)).local }
     {
         self.exchange.copy = None;
@@ -835,7 +920,7 @@ impl PartnerEnd {
         };
         if copy.after_echo && copy.magic == SECOND && copy.echo == own.word() {
             self.exchange.shown = true;
-            self.try_contact();
+            self.try_contact(turn);
         }
     }
 }
@@ -980,14 +1065,13 @@ impl PartnerEnd {
         ensures { self.new ≡ booted_partner self.old }
     {
         let wait = self.wait;
-        *self = PartnerEnd::cold(
+        *self = PartnerEnd::new(
             self.own,
             self.partner,
             self.version,
             self.stamp,
             0,
-            AreaState::Old,
-            false,
+            self.check,
         );
         self.wait = wait;
     }
@@ -1064,6 +1148,13 @@ impl PartnerEnd {
         ensures { result ≡ self.now.version }
     {
         self.version
+    }
+
+    /// How many turns lie between two checks of the partner's heartbeat, 0 for no checks.
+    pub fn check(&self) -> u64
+        ensures { result ≡ self.now.check }
+    {
+        self.check
     }
 
     /// Whether the partner's session stands as the own echo.

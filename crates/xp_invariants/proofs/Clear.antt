@@ -14,8 +14,8 @@ use Rattle.xp_script.specs.declared.scenario.Scenario.{Scenario}
 use Rattle.xp_script.specs.Parts.{part_of}
 use Rattle.xp_protocol.specs.declared.rule.AreaWord.TheVariants.{SessionWord, EchoWord, PlaceWord, ArgsWord, FlagWord, CounterWord}
 use Rattle.xp_protocol.specs.declared.rule.PeerRule.{PeerRule}
-use Rattle.xp_protocol.specs.declared.rule.PeerRule.TheVariants.{AskActivation, TakeFlags, CloseArea, ZeroMagic, ClearOldBit, Prepare, OpenArea, SetEngagementBit, ReadRecord, StoreEcho, StoreSecond, ClearEngagementBit, LookAtPage, ClearDeactivationBit, TellPartner}
-use Rattle.xp_protocol.specs.declared.rule.OwnRule.TheVariants.{ReadEngaged, TakeDeactivation, ReadStamp, ZeroMask, ZeroOffline, WriteStamp, StoreMask, TakeActivation}
+use Rattle.xp_protocol.specs.declared.rule.PeerRule.TheVariants.{AskActivation, TakeFlags, CloseArea, ZeroMagic, ClearOldBit, Prepare, OpenArea, SetEngagementBit, ReadRecord, StoreEcho, StoreSecond, ClearEngagementBit, LookAtPage, CheckBeat, ClearDeactivationBit, TellPartner}
+use Rattle.xp_protocol.specs.declared.rule.OwnRule.TheVariants.{ReadEngaged, TakeDeactivation, ReadStamp, ZeroMask, ZeroOffline, WriteStamp, StoreMask, TakeActivation, StoreBeat, StoreOffline}
 use Rattle.xp_protocol.specs.declared.rule.Rule.{Rule}
 use Rattle.xp_protocol.specs.declared.rule.Rule.TheVariants.{Link, Peer as ForPeer, Own}
 use Rattle.xp_protocol.specs.Acts.{Aim, aimed, with_aim, after_act, command_begun}
@@ -56,8 +56,8 @@ module _ (y : Here) (z : Six) where
       P : Peer → Type 0
       P x = ClearAt la x z
 
-      meets : (x : Peer) → P x → P (try_contact y.stamp x).local
-      meets x k = cond_peer P (x.engage.second && (x.engage.shown && not (is_some x.contact))) (contact_made y.stamp x) (same_peer x) k k
+      meets : (x : Peer) → P x → P (try_contact y.turn y.stamp x).local
+      meets x k = cond_peer P (x.engage.second && (x.engage.shown && not (is_some x.contact))) (contact_made y.turn y.stamp x) (same_peer x) k k
 
   left_clear : (la : Life) (p : Peer) (o : Option Reason) → IsSome o → ClearAt la p z → ClearAt la (area_left_for o p).local (record z { magic = 0 })
   left_clear la p None i h = absurd (cc)
@@ -82,9 +82,10 @@ module _ (y : Here) (z : Six) where
   peer_clear la p StoreSecond v u down can h =
       let x : Peer = record p { engage = record p.engage { second = true } } in
       let new : ClearAt la x (record z { magic = SECOND }) = record { clear = h.clear; up = h.up; shows = λ r. refl } in
-      cond_peer (λ (k : Peer). ClearAt la k (record z { magic = SECOND })) (x.engage.second && (x.engage.shown && not (is_some x.contact))) (contact_made y.stamp x) (same_peer x) new new
+      cond_peer (λ (k : Peer). ClearAt la k (record z { magic = SECOND })) (x.engage.second && (x.engage.shown && not (is_some x.contact))) (contact_made y.turn y.stamp x) (same_peer x) new new
   peer_clear la p ClearEngagementBit v u down can h = record { clear = λ a b. refl; up = h.up; shows = h.shows }
   peer_clear la p LookAtPage v u down can h = cond_peer (λ (x : Peer). ClearAt la x z) (eqb (length (p.paging ++ v ∷ [])) 5) _ _ h h
+  peer_clear la p CheckBeat v u down can h = h
   peer_clear la p ClearDeactivationBit v u down can h = h
   peer_clear la p TellPartner v u down can h = h
 
@@ -92,7 +93,7 @@ module _ (y : Here) (z : Six) where
   numbered_clear la None p m v u down can h = peer_clear la p m v u down can h
   numbered_clear la (Some mark) p m v u down can h = peer_clear la (peer_numbered (Some mark) p) m v u down (can_numbered y (Some mark) p m can) h
 
-  failed_clear : (la : Life) (mark : Option CopyMark) (p : Peer) → ClearAt la p z → ClearAt la (peer_failed mark p) z
+  failed_clear : (la : Life) (mark : Option CopyMark) (p : Peer) → ClearAt la p z → ClearAt la (peer_failed y.turn mark p) z
   failed_clear la None p h = h
   failed_clear la (Some mark) p h = h
 
@@ -125,6 +126,7 @@ theirs_kept AskActivation x z = (refl, refl)
 theirs_kept TakeFlags x z = (refl, refl)
 theirs_kept ReadRecord x z = (refl, refl)
 theirs_kept LookAtPage x z = (refl, refl)
+theirs_kept CheckBeat x z = (refl, refl)
 theirs_kept ClearDeactivationBit x z = (refl, refl)
 theirs_kept TellPartner x z = (refl, refl)
 
@@ -177,6 +179,8 @@ module _ (s : Scenario) (lawful : (p : ℕ) → p < s.count → IsLawfulPart (pa
         at_each (λ (p : Peer). ClearAt st.life p (six w a q)) (λ j p. (deactivation_heard v j p).local) st.peers q (cold_peer Old) (told_clear (here_of su st q) (six w a q) st.life (peer_of st q) v q (old q l n)) (λ f. absurd (omega (arith, f, l, (all.met.all a la).partners)))
     ruled (Own StoreMask) can q l n = old q l n
     ruled (Own TakeActivation) can q l n = old q l n
+    ruled (Own StoreBeat) can q l n = old q l n
+    ruled (Own StoreOffline) can q l n = old q l n
     ruled (Own ZeroMask) can q l n = old q l n
     ruled (Own ZeroOffline) can q l n = old q l n
     ruled (Own ReadStamp) can q l n = halts (ltb (w a (Open STAMP)) 4294967295) where
@@ -206,6 +210,8 @@ module _ (s : Scenario) (lawful : (p : ℕ) → p < s.count → IsLawfulPart (pa
     other (Own WriteStamp) can p l n = let e = six_stamp w a (or_zero st.boot.read + 1) p n in (ap (λ (z : Six). z.their_magic) e, ap (λ (z : Six). z.their_bit) e)
     other (Own StoreMask) can p l n = (refl, refl)
     other (Own TakeActivation) can p l n = (refl, refl)
+    other (Own StoreBeat) can p l n = (refl, refl)
+    other (Own StoreOffline) can p l n = (refl, refl)
 
     -- one partition moves
     module _ (w' : Words) (k : Part) (met' : Met s.count w' (at_one σ a k))
@@ -242,7 +248,7 @@ module _ (s : Scenario) (lawful : (p : ℕ) → p < s.count → IsLawfulPart (pa
     failed_ruled (ForPeer k m) q l n =
         let P : Peer → Type 0 = λ p. ClearAt st.life p (six w a q) in
         let mark = mark_of su st (ForPeer k m) in
-        at_peer P st.peers k _ q (λ e. subst (λ (j : ℕ). P (peer_failed mark (peer_of st j))) e (failed_clear (here_of su st q) (six w a q) st.life mark (peer_of st q) (old q l n))) (old q l n)
+        at_peer P st.peers k _ q (λ e. subst (λ (j : ℕ). P (peer_failed (here_of su st k).turn mark (peer_of st j))) e (failed_clear (here_of su st k) (six w a q) st.life mark (peer_of st q) (old q l n))) (old q l n)
     failed_ruled (Own m) q l n = old q l n
 
     same_words : (p : ℕ) → ((six w a p).their_magic ≡ (six w a p).their_magic) × ((six w a p).their_bit ≡ (six w a p).their_bit)

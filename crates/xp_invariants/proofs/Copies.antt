@@ -21,9 +21,9 @@ use Rattle.xp_script.specs.declared.log.Verb.TheVariants as verbs
 use Rattle.xp_script.specs.declared.part.ScenarioPart.{ScenarioPart}
 use Rattle.xp_protocol.specs.declared.refusal.TakeRefusal.{TakeRefusal}
 use Rattle.xp_protocol.specs.declared.rule.PeerRule.{PeerRule}
-use Rattle.xp_protocol.specs.declared.rule.PeerRule.TheVariants.{AskActivation, TakeFlags, CloseArea, ZeroMagic, ClearOldBit, Prepare, OpenArea, SetEngagementBit, ReadRecord, StoreEcho, StoreSecond, ClearEngagementBit, LookAtPage, ClearDeactivationBit, TellPartner}
+use Rattle.xp_protocol.specs.declared.rule.PeerRule.TheVariants.{AskActivation, TakeFlags, CloseArea, ZeroMagic, ClearOldBit, Prepare, OpenArea, SetEngagementBit, ReadRecord, StoreEcho, StoreSecond, ClearEngagementBit, LookAtPage, CheckBeat, ClearDeactivationBit, TellPartner}
 use Rattle.xp_protocol.specs.declared.rule.AreaWord.TheVariants.{SessionWord, EchoWord, PlaceWord, ArgsWord, FlagWord, CounterWord}
-use Rattle.xp_protocol.specs.declared.rule.OwnRule.TheVariants.{ReadEngaged, TakeDeactivation, ReadStamp, ZeroMask, ZeroOffline, WriteStamp, StoreMask, TakeActivation}
+use Rattle.xp_protocol.specs.declared.rule.OwnRule.TheVariants.{ReadEngaged, TakeDeactivation, ReadStamp, ZeroMask, ZeroOffline, WriteStamp, StoreMask, TakeActivation, StoreBeat, StoreOffline}
 use Rattle.xp_protocol.specs.declared.rule.Rule.{Rule}
 use Rattle.xp_protocol.specs.declared.rule.Rule.TheVariants.{Link, Peer as ForPeer, Own}
 use Rattle.xp_protocol.specs.Acts.{Aim, aimed, aim_by, aim_of, EndName, named_end, upcoming, current, with_aim, after_act, command_begun, say, refused_send, send_begun, take_begun, release_begun, release_held, drain_begun, drain_refusal, register_begun, unregister_begun, withdrawn, end_begun, taken_by, take_found, take_answered, answered_by, end_answered, end_noticed}
@@ -184,8 +184,8 @@ module _ (c : ℕ) where
   each_quiet f bit links q h = at_each (λ (e : End). is_copied e ≡ true → bit ≡ true) (λ i e. (f i e).local) links c idle_end (λ t. h (q c (link_at links c) t)) (λ l t. absurd (cc))
 
   module _ (y : Here) where
-    meets : (x : Peer) → Copies x → Copies (try_contact y.stamp x).local
-    meets x k = cond_peer Copies (x.engage.second && (x.engage.shown && not (is_some x.contact))) (contact_made y.stamp x) (same_peer x) (each_quiet (λ i e. link_joined x.both_new (contact_of y.stamp x.engage) e) x.engage.bit x.links (λ i e t. absurd (cc)) k) k
+    meets : (x : Peer) → Copies x → Copies (try_contact y.turn y.stamp x).local
+    meets x k = cond_peer Copies (x.engage.second && (x.engage.shown && not (is_some x.contact))) (contact_made y.turn y.stamp x) (same_peer x) (each_quiet (λ i e. link_joined x.both_new (contact_of y.stamp x.engage) e) x.engage.bit x.links (λ i e t. absurd (cc)) k) k
 
     reads : (p : Peer) (o : Option Reading) (v : ℕ) → Copies p → Copies (record_read y p o v).local
     reads p None v h = cond_peer Copies (eqb v 0) _ _ h (cond_peer Copies (is_magic v) _ _ h h)
@@ -218,6 +218,7 @@ module _ (c : ℕ) where
     peer_copies p StoreSecond v on can h = meets (record p { engage = record p.engage { second = true } }) h
     peer_copies p ClearEngagementBit v on can h = λ t. (let z : false ≡ true = sym (ends_free p can.1) ∙ t in absurd (cc))
     peer_copies p LookAtPage v on can h = cond_peer Copies (eqb (length (p.paging ++ v ∷ [])) 5) _ _ h h
+    peer_copies p CheckBeat v on can h = h
     peer_copies p ClearDeactivationBit v on can h = h
     peer_copies p TellPartner v on can h = h
 
@@ -225,9 +226,9 @@ module _ (c : ℕ) where
     numbered_copies None p m v on can h = peer_copies p m v on can h
     numbered_copies (Some mark) p m v on can h = peer_copies (peer_numbered (Some mark) p) m v on (can_numbered y (Some mark) p m can) h
 
-  failed_copies : (mark : Option CopyMark) (p : Peer) → Copies p → Copies (peer_failed mark p)
-  failed_copies None p h = h
-  failed_copies (Some mark) p h = h
+  failed_copies : (turn : ℕ) (mark : Option CopyMark) (p : Peer) → Copies p → Copies (peer_failed turn mark p)
+  failed_copies turn None p h = h
+  failed_copies turn (Some mark) p h = h
 
   freed_copies : (p : Peer) (v q : ℕ) → Copies p → Copies (peer_read v q p).local
   freed_copies p v q h = cond_peer Copies (is_left p.engage && not (is_flagged v q)) (area_off p) (same_peer p) (each_quiet (λ i e. link_finished e) p.engage.bit p.links (λ i e t. absurd (cc)) h) h
@@ -252,7 +253,7 @@ module _ (c : ℕ) where
       met None i = absurd (cc)
       met (Some k) i = refl
     rule_copies (ForPeer k m) (Word v) can = at_peer Copies st.peers k _ q (λ e. numbered_copies (here_of su st k) (mark_of su st (ForPeer k m)) (peer_of st k) m v (subst (λ (j : ℕ). is_some (peer_of st j).contact ≡ true → (peer_of st j).engage.bit ≡ true) e on) can.1.1 (subst (λ (j : ℕ). Copies (peer_of st j)) e h)) h
-    rule_copies (ForPeer k m) Failed can = at_peer Copies st.peers k _ q (λ e. failed_copies (mark_of su st (ForPeer k m)) (peer_of st k) (subst (λ (j : ℕ). Copies (peer_of st j)) e h)) h
+    rule_copies (ForPeer k m) Failed can = at_peer Copies st.peers k _ q (λ e. failed_copies (here_of su st k).turn (mark_of su st (ForPeer k m)) (peer_of st k) (subst (λ (j : ℕ). Copies (peer_of st j)) e h)) h
     rule_copies (Own ReadEngaged) (Word v) can = at_each Copies (λ j p. (peer_read v j p).local) st.peers q (cold_peer Old) (freed_copies (peer_of st q) v q h) (λ l. absurd (omega (arith, l, lq, partners)))
     rule_copies (Own TakeDeactivation) (Word v) can = at_each Copies (λ j p. (deactivation_heard v j p).local) st.peers q (cold_peer Old) (told_copies (peer_of st q) v q h) (λ l. absurd (omega (arith, l, lq, partners)))
     rule_copies (Own ReadStamp) (Word v) can = h
@@ -261,6 +262,8 @@ module _ (c : ℕ) where
     rule_copies (Own WriteStamp) (Word v) can = h
     rule_copies (Own StoreMask) (Word v) can = h
     rule_copies (Own TakeActivation) (Word v) can = h
+    rule_copies (Own StoreBeat) (Word v) can = h
+    rule_copies (Own StoreOffline) (Word v) can = h
     rule_copies (Own m) Failed can = h
 
     -- what an act is to an end

@@ -7,8 +7,8 @@ use Rattle.xp_protocol.specs.declared.rule.AreaWord.TheVariants.{SessionWord, Ec
 use Rattle.xp_protocol.specs.declared.rule.RingRule.TheVariants.{ReadGet, WriteEntryWord, AcceptMessage}
 use Rattle.xp_protocol.specs.declared.rule.PullRule.TheVariants.{ReadCounters, ReadEntry}
 use Rattle.xp_protocol.specs.declared.rule.LinkRule.TheVariants.{Ring, Pull, Acknowledge, SetFlag, ZeroGet, ZeroPut, StoreArgument, ReadArgument}
-use Rattle.xp_protocol.specs.declared.rule.PeerRule.TheVariants.{AskActivation, TakeFlags, CloseArea, ZeroMagic, ClearOldBit, Prepare, OpenArea, SetEngagementBit, ReadRecord, StoreEcho, StoreSecond, ClearEngagementBit, LookAtPage, ClearDeactivationBit, TellPartner}
-use Rattle.xp_protocol.specs.declared.rule.OwnRule.TheVariants.{ReadEngaged, TakeDeactivation, ReadStamp, ZeroMask, ZeroOffline, WriteStamp, StoreMask, TakeActivation}
+use Rattle.xp_protocol.specs.declared.rule.PeerRule.TheVariants.{AskActivation, TakeFlags, CloseArea, ZeroMagic, ClearOldBit, Prepare, OpenArea, SetEngagementBit, ReadRecord, StoreEcho, StoreSecond, ClearEngagementBit, LookAtPage, CheckBeat, ClearDeactivationBit, TellPartner}
+use Rattle.xp_protocol.specs.declared.rule.OwnRule.TheVariants.{ReadEngaged, TakeDeactivation, ReadStamp, ZeroMask, ZeroOffline, WriteStamp, StoreMask, TakeActivation, StoreBeat, StoreOffline}
 use Rattle.xp_protocol.specs.declared.rule.Rule.{Rule}
 use Rattle.xp_protocol.specs.declared.rule.Rule.TheVariants.{Link, Peer as ForPeer, Own}
 use Rattle.xp_protocol.specs.State.{State}
@@ -66,6 +66,7 @@ module _ (su : ScenarioPart) (st : State) (w : Words) (p q c f : ℕ) where
   counter_kept (ForPeer k StoreSecond) = inl refl
   counter_kept (ForPeer k ClearEngagementBit) = inl refl
   counter_kept (ForPeer k LookAtPage) = inl refl
+  counter_kept (ForPeer k CheckBeat) = inl refl
   counter_kept (ForPeer k ClearDeactivationBit) = inl refl
   counter_kept (ForPeer k TellPartner) = inl refl
   counter_kept (Own ReadEngaged) = inl refl
@@ -76,3 +77,5 @@ module _ (su : ScenarioPart) (st : State) (w : Words) (p q c f : ℕ) where
   counter_kept (Own WriteStamp) = inl refl
   counter_kept (Own StoreMask) = inl refl
   counter_kept (Own TakeActivation) = inl refl
+  counter_kept (Own StoreBeat) = inl refl
+  counter_kept (Own StoreOffline) = inl refl

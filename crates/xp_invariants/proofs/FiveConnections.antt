@@ -19,7 +19,7 @@ use Rattle.xp_protocol.specs.declared.rule.Argument.TheVariants.{Request, Reply,
 use Rattle.xp_protocol.specs.declared.rule.LinkRule.{LinkRule}
 use Rattle.xp_protocol.specs.declared.rule.LinkRule.TheVariants.{SetFlag, ZeroGet, ZeroPut, StoreArgument, ReadArgument}
 use Rattle.xp_protocol.specs.declared.rule.PeerRule.{PeerRule}
-use Rattle.xp_protocol.specs.declared.rule.PeerRule.TheVariants.{AskActivation, CloseArea, ZeroMagic, ClearOldBit, Prepare, OpenArea, SetEngagementBit, ReadRecord, StoreEcho, StoreSecond, ClearEngagementBit, LookAtPage, ClearDeactivationBit, TellPartner}
+use Rattle.xp_protocol.specs.declared.rule.PeerRule.TheVariants.{AskActivation, CloseArea, ZeroMagic, ClearOldBit, Prepare, OpenArea, SetEngagementBit, ReadRecord, StoreEcho, StoreSecond, ClearEngagementBit, LookAtPage, CheckBeat, ClearDeactivationBit, TellPartner}
 use Rattle.xp_protocol.specs.declared.rule.RecordField.TheVariants.{ArgsPlace, CountersPlace, FlagPlace, ChannelCount, Spare}
 use Rattle.xp_protocol.specs.Acts.{register_begun, unregister_begun}
 use Rattle.xp_protocol.specs.Effects.{Effect, just, and_then, Note, with_notes}
@@ -27,7 +27,7 @@ use Rattle.xp_protocol.specs.Linking.{link_can, link_effect, flags_got, settled}
 use Rattle.xp_protocol.specs.Peering.{first_magic, second_magic, Here, with_reason, peer_can, peer_effect, peer_read, deactivation_heard, peer_failed, failed_reason, booted_peer}
 use Rattle.xp_protocol.specs.Promised.{Name, name_of}
 use Rattle.xp_protocol.specs.Records.{opened_record}
-use Rattle.xp_protocol.specs.State.{Contact, End, Peer, Size, Off, Ready, cold_peer, first_contact, idle_end, idle_links, link_of, none_going, set_link, warm_end, warm_engage, warm_peer}
+use Rattle.xp_protocol.specs.State.{Contact, End, Peer, Size, Off, Ready, cold_peer, first_contact, idle_end, idle_links, link_of, new_watch, none_going, set_link, warm_end, warm_engage, warm_peer}
 
 -- what an end does, or what comes to it
 data Step : Type 0 where
@@ -142,14 +142,14 @@ record Now : Type 0 where
   peer : Peer
 
 abbrev here : Now → Here
-here k = record { part = 0; version = VERSION; turn = k.turn; wait = back_off_of 2; masked = true; stamp = k.stamp; read = true }
+here k = record { part = 0; version = VERSION; turn = k.turn; wait = back_off_of 2; check = 0; masked = true; stamp = k.stamp; read = true }
 
 abbrev with_effect : Now → Effect Peer (ℕ → List Note) → Now
 with_effect k f = record k { peer = with_reason f.reason f.local }
 
 abbrev moved : Move → Now → Now
 moved (For m v) k = with_effect k (peer_effect (here k) k.peer m v)
-moved (Fails n) k = let mark = Some (record { kind = PageCopy; number = n; word = 0 }) in record k { peer = with_reason (failed_reason mark k.peer) (peer_failed mark k.peer) }
+moved (Fails n) k = let mark = Some (record { kind = PageCopy; number = n; word = 0 }) in record k { peer = with_reason (failed_reason mark k.peer) (peer_failed k.turn mark k.peer) }
 moved Frees k = with_effect k (peer_read 0 1 k.peer)
 moved Hears k = with_effect k (deactivation_heard 2 1 k.peer)
 moved Restarts k = record k { stamp = k.stamp + 1; peer = booted_peer k.peer }
@@ -177,21 +177,22 @@ abbrev said : List Move → Now → List Note
 said [] k = []
 said (x ∷ xs) k = heard x k ++ said xs (moved x k)
 
--- a partner in contact: how often the own area was opened in this boot, in which turn the own bit was cleared last, the sessions, and the end of channel 0
+-- a partner in contact: how often the own area was opened in this boot, in which turn the own bit was cleared last, in which one contact was made, the sessions, and the end of channel 0
 abbrev meeting : Session → Session → Contact
 meeting own theirs = record { own = own; theirs = theirs }
 
 abbrev session : ℕ → ℕ → Session
 session stamp count = record { stamp = stamp; count = count }
 
-abbrev meets : ℕ → Option ℕ → Contact → End → Peer
-meets count cleared m e =
+abbrev meets : ℕ → Option ℕ → ℕ → Contact → End → Peer
+meets count cleared since m e =
     let o = fresh 0 m None [] in
     record (cold_peer Ready) {
       look = Good VERSION;
       contact = Some m;
       engage = record warm_engage { count = count; session_put = true; echo_put = true; flags_put = true; places_put = 248; args_put = 65535; counters_put = 255; read = Some (session_word m.theirs); echo = Some (session_word m.theirs); cleared_at = cleared; deactivation_cleared = true };
       links = e ∷ o ∷ o ∷ o ∷ [];
+      watch = new_watch since;
     }
 
 -- the contact is lost, since a load fails, and made anew
@@ -205,13 +206,13 @@ lost_may : Moves lost lost_from
 unfolding idle_links none_going
 lost_may = (tt, ((refl, refl), ((refl, refl), ((refl, refl, inr (refl, refl)), (tt, (tt, ((refl, tt), ((refl, tt), ((refl, tt), ((refl, tt), ((refl, tt), ((refl, tt), ((refl, tt), ((refl, tt), ((refl, (omega arith, omega arith)), ((refl, (omega arith, omega arith)), ((refl, (omega arith, omega arith)), ((refl, (omega arith, omega arith)), ((refl, (omega arith, omega arith)), ((refl, (omega arith, omega arith)), ((refl, (omega arith, omega arith)), ((refl, (omega arith, omega arith)), ((refl, (omega arith, omega arith)), ((refl, (omega arith, omega arith)), ((refl, (omega arith, omega arith)), ((refl, (omega arith, omega arith)), ((refl, (omega arith, omega arith)), ((refl, (omega arith, omega arith)), ((refl, (omega arith, omega arith)), ((refl, (omega arith, omega arith)), ((refl, (omega arith, omega arith)), ((refl, (omega arith, omega arith)), ((refl, (omega arith, omega arith)), ((refl, (omega arith, omega arith)), ((refl, (omega arith, omega arith)), ((refl, (omega arith, omega arith)), ((refl, (omega arith, omega arith)), ((refl, (omega arith, omega arith)), (refl, ((refl, refl, refl, refl), (omega arith, (omega arith, (omega arith, (omega arith, (omega arith, ((refl, refl, refl, λ e. refl), ((refl, refl, refl, refl, refl, omega arith), ((refl, refl, refl, refl, refl, omega arith), ((refl, refl, refl, refl, refl, omega arith), ((refl, refl, refl, refl, refl, omega arith), ((refl, refl, refl, refl, refl, omega arith), ((refl, refl, refl, refl, refl, omega arith), ((refl, refl, refl, refl, refl, omega arith), ((refl, refl, refl, refl, refl, omega arith), ((refl, refl, refl, refl, refl, omega arith), ((refl, refl, refl, refl, refl), ((refl, refl, refl), ((refl, refl, refl, refl, refl, omega arith), ((refl, refl, refl, refl, refl, omega arith), ((refl, refl, refl, refl, refl, omega arith), ((refl, refl, refl, refl, refl, omega arith), ((refl, refl, refl, refl, refl, omega arith), ((refl, refl, refl, refl, refl, omega arith), ((refl, refl, refl, refl, refl, omega arith), ((refl, refl, refl, refl, refl, omega arith), tt)))))))))))))))))))))))))))))))))))))))))))))))))))))))))))))))))
 
-lost_is : (leads_to lost lost_from).peer ≡ meets 2 (Some 5000) (meeting (session 1 2) (session 1 2)) (fresh 0 (meeting (session 1 2) (session 1 2)) (Some size) (Unregistered ∷ CopyError PageCopy 1 ∷ []))
+lost_is : (leads_to lost lost_from).peer ≡ meets 2 (Some 5000) (5000 + back_off_of 2) (meeting (session 1 2) (session 1 2)) (fresh 0 (meeting (session 1 2) (session 1 2)) (Some size) (Unregistered ∷ CopyError PageCopy 1 ∷ []))
 unfolding idle_links none_going
 lost_is = refl
 
 -- the partition restarts, and makes contact again
 abbrev booted_from : Now
-booted_from = record { turn = 10000; stamp = 1; peer = meets 2 (Some 5000) (meeting (session 1 2) (session 1 2)) (connected 0 (meeting (session 1 2) (session 1 2)) (Unregistered ∷ CopyError PageCopy 1 ∷ [])) }
+booted_from = record { turn = 10000; stamp = 1; peer = meets 2 (Some 5000) (5000 + back_off_of 2) (meeting (session 1 2) (session 1 2)) (connected 0 (meeting (session 1 2) (session 1 2)) (Unregistered ∷ CopyError PageCopy 1 ∷ [])) }
 
 abbrev booted : List Move
 booted = Restarts ∷ For ZeroMagic 0 ∷ For ClearOldBit 0 ∷ Frees ∷ For (Prepare SessionWord) 0 ∷ For (Prepare EchoWord) 0 ∷ For (Prepare FlagWord) 0 ∷ For (Prepare (PlaceWord ArgsPlace)) 0 ∷ For (Prepare (PlaceWord CountersPlace)) 0 ∷ For (Prepare (PlaceWord FlagPlace)) 0 ∷ For (Prepare (PlaceWord ChannelCount)) 0 ∷ For (Prepare (PlaceWord Spare)) 0 ∷ For (Prepare (ArgsWord 0 0)) 0 ∷ For (Prepare (ArgsWord 0 1)) 0 ∷ For (Prepare (ArgsWord 0 2)) 0 ∷ For (Prepare (ArgsWord 0 3)) 0 ∷ For (Prepare (ArgsWord 1 0)) 0 ∷ For (Prepare (ArgsWord 1 1)) 0 ∷ For (Prepare (ArgsWord 1 2)) 0 ∷ For (Prepare (ArgsWord 1 3)) 0 ∷ For (Prepare (ArgsWord 2 0)) 0 ∷ For (Prepare (ArgsWord 2 1)) 0 ∷ For (Prepare (ArgsWord 2 2)) 0 ∷ For (Prepare (ArgsWord 2 3)) 0 ∷ For (Prepare (ArgsWord 3 0)) 0 ∷ For (Prepare (ArgsWord 3 1)) 0 ∷ For (Prepare (ArgsWord 3 2)) 0 ∷ For (Prepare (ArgsWord 3 3)) 0 ∷ For (Prepare (CounterWord 0 0)) 0 ∷ For (Prepare (CounterWord 0 1)) 0 ∷ For (Prepare (CounterWord 1 0)) 0 ∷ For (Prepare (CounterWord 1 1)) 0 ∷ For (Prepare (CounterWord 2 0)) 0 ∷ For (Prepare (CounterWord 2 1)) 0 ∷ For (Prepare (CounterWord 3 0)) 0 ∷ For (Prepare (CounterWord 3 1)) 0 ∷ For ClearDeactivationBit 0 ∷ For OpenArea 0 ∷ For LookAtPage SIGNATURE ∷ For LookAtPage VERSION ∷ For LookAtPage VARIABLES_AT ∷ For LookAtPage RECORDS_AT ∷ For LookAtPage 1 ∷ For AskActivation 0 ∷ For SetEngagementBit 0 ∷ For ReadRecord first_magic ∷ For ReadRecord 4294967299 ∷ For ReadRecord 0 ∷ For ReadRecord ARGS_AT ∷ For ReadRecord COUNTERS_AT ∷ For ReadRecord FLAGS_AT ∷ For ReadRecord 4 ∷ For ReadRecord 0 ∷ For StoreEcho 0 ∷ For StoreSecond 0 ∷ For ReadRecord second_magic ∷ For ReadRecord 4294967299 ∷ For ReadRecord 8589934593 ∷ For ReadRecord ARGS_AT ∷ For ReadRecord COUNTERS_AT ∷ For ReadRecord FLAGS_AT ∷ For ReadRecord 4 ∷ For ReadRecord 0 ∷ []
@@ -220,13 +221,13 @@ booted_may : Moves booted booted_from
 unfolding idle_links none_going
 booted_may = (tt, (refl, (refl, (tt, ((refl, tt), ((refl, tt), ((refl, tt), ((refl, tt), ((refl, tt), ((refl, tt), ((refl, tt), ((refl, tt), ((refl, (omega arith, omega arith)), ((refl, (omega arith, omega arith)), ((refl, (omega arith, omega arith)), ((refl, (omega arith, omega arith)), ((refl, (omega arith, omega arith)), ((refl, (omega arith, omega arith)), ((refl, (omega arith, omega arith)), ((refl, (omega arith, omega arith)), ((refl, (omega arith, omega arith)), ((refl, (omega arith, omega arith)), ((refl, (omega arith, omega arith)), ((refl, (omega arith, omega arith)), ((refl, (omega arith, omega arith)), ((refl, (omega arith, omega arith)), ((refl, (omega arith, omega arith)), ((refl, (omega arith, omega arith)), ((refl, (omega arith, omega arith)), ((refl, (omega arith, omega arith)), ((refl, (omega arith, omega arith)), ((refl, (omega arith, omega arith)), ((refl, (omega arith, omega arith)), ((refl, (omega arith, omega arith)), ((refl, (omega arith, omega arith)), ((refl, (omega arith, omega arith)), (refl, ((refl, refl, refl, refl), (omega arith, (omega arith, (omega arith, (omega arith, (omega arith, ((refl, refl, refl, λ e. refl), ((refl, refl, refl, refl, refl, tt), ((refl, refl, refl, refl, refl, omega arith), ((refl, refl, refl, refl, refl, omega arith), ((refl, refl, refl, refl, refl, omega arith), ((refl, refl, refl, refl, refl, omega arith), ((refl, refl, refl, refl, refl, omega arith), ((refl, refl, refl, refl, refl, omega arith), ((refl, refl, refl, refl, refl, omega arith), ((refl, refl, refl, refl, refl, omega arith), ((refl, refl, refl, refl, refl), ((refl, refl, refl), ((refl, refl, refl, refl, refl, omega arith), ((refl, refl, refl, refl, refl, omega arith), ((refl, refl, refl, refl, refl, omega arith), ((refl, refl, refl, refl, refl, omega arith), ((refl, refl, refl, refl, refl, omega arith), ((refl, refl, refl, refl, refl, omega arith), ((refl, refl, refl, refl, refl, omega arith), ((refl, refl, refl, refl, refl, omega arith), tt)))))))))))))))))))))))))))))))))))))))))))))))))))))))))))))))
 
-booted_is : (leads_to booted booted_from).peer ≡ meets 1 None (meeting (session 2 1) (session 1 3)) (fresh 0 (meeting (session 2 1) (session 1 3)) None [])
+booted_is : (leads_to booted booted_from).peer ≡ meets 1 None 10000 (meeting (session 2 1) (session 1 3)) (fresh 0 (meeting (session 2 1) (session 1 3)) None [])
 unfolding idle_links none_going
 booted_is = refl
 
 -- its partner restarts: a look shows another stamp, and contact is made again
 abbrev rebooted_from : Now
-rebooted_from = record { turn = 15000; stamp = 2; peer = meets 1 None (meeting (session 2 1) (session 1 3)) (connected 0 (meeting (session 2 1) (session 1 3)) []) }
+rebooted_from = record { turn = 15000; stamp = 2; peer = meets 1 None 10000 (meeting (session 2 1) (session 1 3)) (connected 0 (meeting (session 2 1) (session 1 3)) []) }
 
 abbrev rebooted : List Move
 rebooted = For LookAtPage SIGNATURE ∷ For LookAtPage VERSION ∷ For LookAtPage VARIABLES_AT ∷ For LookAtPage RECORDS_AT ∷ For LookAtPage 2 ∷ For CloseArea 0 ∷ For TellPartner 0 ∷ For ClearEngagementBit 0 ∷ Frees ∷ Waits ∷ For (Prepare SessionWord) 0 ∷ For (Prepare EchoWord) 0 ∷ For (Prepare FlagWord) 0 ∷ For (Prepare (PlaceWord ArgsPlace)) 0 ∷ For (Prepare (PlaceWord CountersPlace)) 0 ∷ For (Prepare (PlaceWord FlagPlace)) 0 ∷ For (Prepare (PlaceWord ChannelCount)) 0 ∷ For (Prepare (PlaceWord Spare)) 0 ∷ For (Prepare (ArgsWord 0 0)) 0 ∷ For (Prepare (ArgsWord 0 1)) 0 ∷ For (Prepare (ArgsWord 0 2)) 0 ∷ For (Prepare (ArgsWord 0 3)) 0 ∷ For (Prepare (ArgsWord 1 0)) 0 ∷ For (Prepare (ArgsWord 1 1)) 0 ∷ For (Prepare (ArgsWord 1 2)) 0 ∷ For (Prepare (ArgsWord 1 3)) 0 ∷ For (Prepare (ArgsWord 2 0)) 0 ∷ For (Prepare (ArgsWord 2 1)) 0 ∷ For (Prepare (ArgsWord 2 2)) 0 ∷ For (Prepare (ArgsWord 2 3)) 0 ∷ For (Prepare (ArgsWord 3 0)) 0 ∷ For (Prepare (ArgsWord 3 1)) 0 ∷ For (Prepare (ArgsWord 3 2)) 0 ∷ For (Prepare (ArgsWord 3 3)) 0 ∷ For (Prepare (CounterWord 0 0)) 0 ∷ For (Prepare (CounterWord 0 1)) 0 ∷ For (Prepare (CounterWord 1 0)) 0 ∷ For (Prepare (CounterWord 1 1)) 0 ∷ For (Prepare (CounterWord 2 0)) 0 ∷ For (Prepare (CounterWord 2 1)) 0 ∷ For (Prepare (CounterWord 3 0)) 0 ∷ For (Prepare (CounterWord 3 1)) 0 ∷ For ClearDeactivationBit 0 ∷ For OpenArea 0 ∷ For LookAtPage SIGNATURE ∷ For LookAtPage VERSION ∷ For LookAtPage VARIABLES_AT ∷ For LookAtPage RECORDS_AT ∷ For LookAtPage 2 ∷ For AskActivation 0 ∷ For SetEngagementBit 0 ∷ For ReadRecord first_magic ∷ For ReadRecord 8589934593 ∷ For ReadRecord 0 ∷ For ReadRecord ARGS_AT ∷ For ReadRecord COUNTERS_AT ∷ For ReadRecord FLAGS_AT ∷ For ReadRecord 4 ∷ For ReadRecord 0 ∷ For StoreEcho 0 ∷ For StoreSecond 0 ∷ For ReadRecord second_magic ∷ For ReadRecord 8589934593 ∷ For ReadRecord 8589934594 ∷ For ReadRecord ARGS_AT ∷ For ReadRecord COUNTERS_AT ∷ For ReadRecord FLAGS_AT ∷ For ReadRecord 4 ∷ For ReadRecord 0 ∷ []
@@ -235,7 +236,7 @@ rebooted_may : Moves rebooted rebooted_from
 unfolding idle_links none_going
 rebooted_may = (omega arith, (omega arith, (omega arith, (omega arith, (omega arith, ((refl, refl), ((refl, refl), ((refl, refl, inr (refl, refl)), (tt, (tt, ((refl, tt), ((refl, tt), ((refl, tt), ((refl, tt), ((refl, tt), ((refl, tt), ((refl, tt), ((refl, tt), ((refl, (omega arith, omega arith)), ((refl, (omega arith, omega arith)), ((refl, (omega arith, omega arith)), ((refl, (omega arith, omega arith)), ((refl, (omega arith, omega arith)), ((refl, (omega arith, omega arith)), ((refl, (omega arith, omega arith)), ((refl, (omega arith, omega arith)), ((refl, (omega arith, omega arith)), ((refl, (omega arith, omega arith)), ((refl, (omega arith, omega arith)), ((refl, (omega arith, omega arith)), ((refl, (omega arith, omega arith)), ((refl, (omega arith, omega arith)), ((refl, (omega arith, omega arith)), ((refl, (omega arith, omega arith)), ((refl, (omega arith, omega arith)), ((refl, (omega arith, omega arith)), ((refl, (omega arith, omega arith)), ((refl, (omega arith, omega arith)), ((refl, (omega arith, omega arith)), ((refl, (omega arith, omega arith)), ((refl, (omega arith, omega arith)), ((refl, (omega arith, omega arith)), (refl, ((refl, refl, refl, refl), (omega arith, (omega arith, (omega arith, (omega arith, (omega arith, ((refl, refl, refl, λ e. refl), ((refl, refl, refl, refl, refl, omega arith), ((refl, refl, refl, refl, refl, omega arith), ((refl, refl, refl, refl, refl, omega arith), ((refl, refl, refl, refl, refl, omega arith), ((refl, refl, refl, refl, refl, omega arith), ((refl, refl, refl, refl, refl, omega arith), ((refl, refl, refl, refl, refl, omega arith), ((refl, refl, refl, refl, refl, omega arith), ((refl, refl, refl, refl, refl, omega arith), ((refl, refl, refl, refl, refl), ((refl, refl, refl), ((refl, refl, refl, refl, refl, omega arith), ((refl, refl, refl, refl, refl, omega arith), ((refl, refl, refl, refl, refl, omega arith), ((refl, refl, refl, refl, refl, omega arith), ((refl, refl, refl, refl, refl, omega arith), ((refl, refl, refl, refl, refl, omega arith), ((refl, refl, refl, refl, refl, omega arith), ((refl, refl, refl, refl, refl, omega arith), tt)))))))))))))))))))))))))))))))))))))))))))))))))))))))))))))))))))))
 
-rebooted_is : (leads_to rebooted rebooted_from).peer ≡ meets 2 (Some 15000) (meeting (session 2 2) (session 2 1)) (fresh 0 (meeting (session 2 2) (session 2 1)) (Some size) (Reactivating 1 2 ∷ []))
+rebooted_is : (leads_to rebooted rebooted_from).peer ≡ meets 2 (Some 15000) (15000 + back_off_of 2) (meeting (session 2 2) (session 2 1)) (fresh 0 (meeting (session 2 2) (session 2 1)) (Some size) (Reactivating 1 2 ∷ []))
 unfolding idle_links none_going
 rebooted_is = refl
 

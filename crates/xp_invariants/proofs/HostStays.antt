@@ -15,8 +15,8 @@ use Rattle.xp_base.specs.History.{Act, Marked, Turn, IsAnswer, IsAnswered}
 use Rattle.xp_script.specs.declared.part.ScenarioPart.{ScenarioPart}
 use Rattle.xp_protocol.specs.declared.rule.AreaWord.TheVariants.{SessionWord, EchoWord, PlaceWord, ArgsWord, FlagWord, CounterWord}
 use Rattle.xp_protocol.specs.declared.rule.PeerRule.{PeerRule}
-use Rattle.xp_protocol.specs.declared.rule.PeerRule.TheVariants.{AskActivation, TakeFlags, CloseArea, ZeroMagic, ClearOldBit, Prepare, OpenArea, SetEngagementBit, ReadRecord, StoreEcho, StoreSecond, ClearEngagementBit, LookAtPage, ClearDeactivationBit, TellPartner}
-use Rattle.xp_protocol.specs.declared.rule.OwnRule.TheVariants.{ReadEngaged, TakeDeactivation, ReadStamp, ZeroMask, ZeroOffline, WriteStamp, StoreMask, TakeActivation}
+use Rattle.xp_protocol.specs.declared.rule.PeerRule.TheVariants.{AskActivation, TakeFlags, CloseArea, ZeroMagic, ClearOldBit, Prepare, OpenArea, SetEngagementBit, ReadRecord, StoreEcho, StoreSecond, ClearEngagementBit, LookAtPage, CheckBeat, ClearDeactivationBit, TellPartner}
+use Rattle.xp_protocol.specs.declared.rule.OwnRule.TheVariants.{ReadEngaged, TakeDeactivation, ReadStamp, ZeroMask, ZeroOffline, WriteStamp, StoreMask, TakeActivation, StoreBeat, StoreOffline}
 use Rattle.xp_protocol.specs.declared.rule.Rule.{Rule}
 use Rattle.xp_protocol.specs.declared.rule.Rule.TheVariants.{Link, Peer as ForPeer, Own}
 use Rattle.xp_protocol.specs.Acts.{Aim, aimed, with_aim, after_act, after_acts, command_begun}
@@ -32,8 +32,8 @@ abbrev Taken : Peer → Type 0
 Taken p = p.engage.area ≡ Off → ⊥
 
 module _ (y : Here) where
-  meets : (x : Peer) → Taken x → Taken (try_contact y.stamp x).local
-  meets x k = cond_peer Taken (x.engage.second && (x.engage.shown && not (is_some x.contact))) (contact_made y.stamp x) (same_peer x) k k
+  meets : (x : Peer) → Taken x → Taken (try_contact y.turn y.stamp x).local
+  meets x k = cond_peer Taken (x.engage.second && (x.engage.shown && not (is_some x.contact))) (contact_made y.turn y.stamp x) (same_peer x) k k
 
   reads : (p : Peer) (o : Option Reading) (v : ℕ) → Taken p → Taken (record_read y p o v).local
   reads p None v h = cond_peer Taken (eqb v 0) _ _ h (cond_peer Taken (is_magic v) _ _ h h)
@@ -63,6 +63,7 @@ module _ (y : Here) where
   peer_taken p StoreSecond v h = meets (record p { engage = record p.engage { second = true } }) h
   peer_taken p ClearEngagementBit v h = h
   peer_taken p LookAtPage v h = cond_peer Taken (eqb (length (p.paging ++ v ∷ [])) 5) _ _ h h
+  peer_taken p CheckBeat v h = h
   peer_taken p ClearDeactivationBit v h = h
   peer_taken p TellPartner v h = h
 
@@ -70,9 +71,9 @@ module _ (y : Here) where
   numbered_taken None p m v h = peer_taken p m v h
   numbered_taken (Some mark) p m v h = peer_taken (peer_numbered (Some mark) p) m v h
 
-failed_taken : (mark : Option CopyMark) (p : Peer) → Taken p → Taken (peer_failed mark p)
-failed_taken None p h = h
-failed_taken (Some mark) p h = h
+failed_taken : (turn : ℕ) (mark : Option CopyMark) (p : Peer) → Taken p → Taken (peer_failed turn mark p)
+failed_taken turn None p h = h
+failed_taken turn (Some mark) p h = h
 
 -- the partner's bit is seen
 seen_taken : (p : Peer) (v q : ℕ) → bit_at v q ≡ 1 → Taken p → Taken (peer_read v q p).local
@@ -97,7 +98,7 @@ module _ (su : ScenarioPart) (q : ℕ) where
   ruled : (st : State) (r : Rule) (a : Answer) → Sees r a → (length st.peers ≡ length st.peers) → Stays st → Stays (after_answer su st r a)
   ruled st (Link k d m) a sees n h = at_peer Taken st.peers k _ q (λ e. subst (λ (j : ℕ). Taken (peer_of st j)) e h) h
   ruled st (ForPeer k m) (Word v) sees n h = at_peer Taken st.peers k _ q (λ e. numbered_taken (here_of su st k) (mark_of su st (ForPeer k m)) (peer_of st k) m v (subst (λ (j : ℕ). Taken (peer_of st j)) e h)) h
-  ruled st (ForPeer k m) Failed sees n h = at_peer Taken st.peers k _ q (λ e. failed_taken (mark_of su st (ForPeer k m)) (peer_of st k) (subst (λ (j : ℕ). Taken (peer_of st j)) e h)) h
+  ruled st (ForPeer k m) Failed sees n h = at_peer Taken st.peers k _ q (λ e. failed_taken (here_of su st k).turn (mark_of su st (ForPeer k m)) (peer_of st k) (subst (λ (j : ℕ). Taken (peer_of st j)) e h)) h
   ruled st (Own ReadEngaged) (Word v) sees n h = at_each Taken (λ j p. (peer_read v j p).local) st.peers q (cold_peer Old) (seen_taken (peer_of st q) v q sees h) (λ l e. absurd (cc))
   ruled st (Own TakeDeactivation) (Word v) sees n h = at_each Taken (λ j p. (deactivation_heard v j p).local) st.peers q (cold_peer Old) (told_taken (peer_of st q) v q h) (λ l e. absurd (cc))
   ruled st (Own ReadStamp) (Word v) sees n h = h
@@ -106,6 +107,8 @@ module _ (su : ScenarioPart) (q : ℕ) where
   ruled st (Own WriteStamp) (Word v) sees n h = h
   ruled st (Own StoreMask) (Word v) sees n h = h
   ruled st (Own TakeActivation) (Word v) sees n h = h
+  ruled st (Own StoreBeat) (Word v) sees n h = h
+  ruled st (Own StoreOffline) (Word v) sees n h = h
   ruled st (Own m) Failed sees n h = h
 
   aimed_stays : (st : State) (x : Option Aim) → Stays st → Stays (with_aim x st)
@@ -135,7 +138,11 @@ module _ (su : ScenarioPart) (q : ℕ) where
   sees_by m st (Own StoreMask) (Word v) bit i = tt
   sees_by m st (Own StoreMask) Failed bit i = tt
   sees_by m st (Own TakeActivation) (Word v) bit i = tt
+  sees_by m st (Own StoreBeat) (Word v) bit i = tt
+  sees_by m st (Own StoreOffline) (Word v) bit i = tt
   sees_by m st (Own TakeActivation) Failed bit i = tt
+  sees_by m st (Own StoreBeat) Failed bit i = tt
+  sees_by m st (Own StoreOffline) Failed bit i = tt
   sees_by m st (Link k c x) a bit i = tt
   sees_by m st (ForPeer k x) a bit i = tt
 

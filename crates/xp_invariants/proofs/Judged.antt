@@ -22,8 +22,8 @@ use Rattle.xp_script.specs.Opening.{version_word, opening}
 use Rattle.xp_script.specs.Parts.{part_of, links_of}
 use Rattle.xp_script.specs.Settings.{minor_of}
 use Rattle.xp_protocol.specs.declared.rule.PeerRule.{PeerRule}
-use Rattle.xp_protocol.specs.declared.rule.PeerRule.TheVariants.{AskActivation, TakeFlags, CloseArea, ZeroMagic, ClearOldBit, Prepare, OpenArea, SetEngagementBit, ReadRecord, StoreEcho, StoreSecond, ClearEngagementBit, LookAtPage, ClearDeactivationBit, TellPartner}
-use Rattle.xp_protocol.specs.declared.rule.OwnRule.TheVariants.{ReadEngaged, TakeDeactivation, ReadStamp, ZeroMask, ZeroOffline, WriteStamp, StoreMask, TakeActivation}
+use Rattle.xp_protocol.specs.declared.rule.PeerRule.TheVariants.{AskActivation, TakeFlags, CloseArea, ZeroMagic, ClearOldBit, Prepare, OpenArea, SetEngagementBit, ReadRecord, StoreEcho, StoreSecond, ClearEngagementBit, LookAtPage, CheckBeat, ClearDeactivationBit, TellPartner}
+use Rattle.xp_protocol.specs.declared.rule.OwnRule.TheVariants.{ReadEngaged, TakeDeactivation, ReadStamp, ZeroMask, ZeroOffline, WriteStamp, StoreMask, TakeActivation, StoreBeat, StoreOffline}
 use Rattle.xp_protocol.specs.declared.rule.Rule.{Rule}
 use Rattle.xp_protocol.specs.declared.rule.Rule.TheVariants.{Link, Peer as ForPeer, Own}
 use Rattle.xp_protocol.specs.Acts.{Aim, aimed, aim_by, aim_of, EndName, named_end, upcoming, current, with_aim, after_act, after_acts, command_begun, end_begun, end_answered}
@@ -121,9 +121,9 @@ module _ (new : Bool) (c : ℕ) where
   stays : (p : Peer) → Judges new c p → Follows new c p
   stays p h = λ t. inl (h t)
 
-  meets : (stamp : ℕ) (p : Peer) → Judges new c p → Follows new c (try_contact stamp p).local
-  meets stamp p h =
-      cond_peer (Follows new c) (p.engage.second && (p.engage.shown && not (is_some p.contact))) (contact_made stamp p) (same_peer p)
+  meets : (turn stamp : ℕ) (p : Peer) → Judges new c p → Follows new c (try_contact turn stamp p).local
+  meets turn stamp p h =
+      cond_peer (Follows new c) (p.engage.second && (p.engage.shown && not (is_some p.contact))) (contact_made turn stamp p) (same_peer p)
       (at_each (λ (e : End). is_some e.shake.meet ≡ true → Either new p.both_new true e.shake.both_new) (λ d e. (link_joined p.both_new (contact_of stamp p.engage) e).local) p.links c idle_end (λ t. inr (refl, refl)) (λ l t. absurd (cc)))
       (stays p h)
 
@@ -131,7 +131,7 @@ module _ (new : Bool) (c : ℕ) where
   reads y p None v h = cond_peer (Follows new c) (eqb v 0) _ _ (stays p h) (cond_peer (Follows new c) (is_magic v) _ _ (stays p h) (stays p h))
   reads y p (Some r) v h =
       cond_peer (Follows new c) (eqb r.done 1) _ _ (stays p h) (cond_peer (Follows new c) (eqb r.done 2) _ _ (stays p h) (cond_peer (Follows new c) (eqb r.done 7) _ _
-      (cond_peer (Follows new c) (has_shown y.stamp p.engage r) _ _ (meets y.stamp (record p { engage = record p.engage { shown = true; reading = None } }) h) (stays p h))
+      (cond_peer (Follows new c) (has_shown y.stamp p.engage r) _ _ (meets y.turn y.stamp (record p { engage = record p.engage { shown = true; reading = None } }) h) (stays p h))
       (cond_peer (Follows new c) (is_wrong y.part r.done v) _ _ (stays p h) (stays p h))))
 
   leaves : (p : Peer) (o : Option Reason) → Judges new c p → Follows new c (area_left_for o p).local
@@ -147,8 +147,9 @@ module _ (new : Bool) (c : ℕ) where
   peer_follows y p TakeFlags v h = cond_peer (Follows new c) (is_bad_flags v) _ (flags_taken v p) (stays p h) (stays (flags_taken v p).local (takes v p h))
   peer_follows y p CloseArea v h = leaves p p.engage.reason h
   peer_follows y p ReadRecord v h = reads y p p.engage.reading v h
-  peer_follows y p StoreSecond v h = meets y.stamp (record p { engage = record p.engage { second = true } }) h
+  peer_follows y p StoreSecond v h = meets y.turn y.stamp (record p { engage = record p.engage { second = true } }) h
   peer_follows y p LookAtPage v h = cond_peer (Follows new c) (eqb (length (p.paging ++ v ∷ [])) 5) _ _ (λ t. inl (h t)) (stays p h)
+  peer_follows y p CheckBeat v h = stays p h
   peer_follows y p AskActivation v h = stays p h
   peer_follows y p ZeroMagic v h = stays p h
   peer_follows y p ClearOldBit v h = stays p h
@@ -164,9 +165,9 @@ module _ (new : Bool) (c : ℕ) where
   numbered_follows y None p m v h = peer_follows y p m v h
   numbered_follows y (Some mark) p m v h = peer_follows y (peer_numbered (Some mark) p) m v h
 
-  failed_follows : (mark : Option CopyMark) (p : Peer) → Judges new c p → Follows new c (peer_failed mark p)
-  failed_follows None p h = stays p h
-  failed_follows (Some mark) p h = stays p h
+  failed_follows : (turn : ℕ) (mark : Option CopyMark) (p : Peer) → Judges new c p → Follows new c (peer_failed turn mark p)
+  failed_follows turn None p h = stays p h
+  failed_follows turn (Some mark) p h = stays p h
 
   freed_follows : (p : Peer) (v q : ℕ) → Judges new c p → Follows new c (peer_read v q p).local
   freed_follows p v q h = cond_peer (Follows new c) (is_left p.engage && not (is_flagged v q)) (area_off p) (same_peer p) (none_holds (Either new p.both_new false) c p.links (λ d e. (link_finished e).local) (λ d e. refl)) (stays p h)
@@ -194,7 +195,7 @@ module _ (new : Bool) (c : ℕ) where
         (λ f. subst (λ (z : Stance). is_some z.meet ≡ true → Either new (peer_of st k).both_new (is_some (peer_of st k).contact) z.new) (sym (linked_same _ _ (end_of st k d) m a)) (λ t. inl (subst (λ (j : ℕ). is_some (end_of st k j).shake.meet ≡ true → (end_of st k j).shake.both_new ≡ new) f (at k e) t)))
         (stays (peer_of st k) (at k e))) old
     rule_follows (ForPeer k m) (Word v) = at_peer (Follows new c) st.peers k _ q (λ e. numbered_follows (here_of su st k) (mark_of su st (ForPeer k m)) (peer_of st k) m v (at k e)) old
-    rule_follows (ForPeer k m) Failed = at_peer (Follows new c) st.peers k _ q (λ e. failed_follows (mark_of su st (ForPeer k m)) (peer_of st k) (at k e)) old
+    rule_follows (ForPeer k m) Failed = at_peer (Follows new c) st.peers k _ q (λ e. failed_follows (here_of su st k).turn (mark_of su st (ForPeer k m)) (peer_of st k) (at k e)) old
     rule_follows (Own ReadEngaged) (Word v) = at_each (Follows new c) (λ j p. (peer_read v j p).local) st.peers q (cold_peer Old) (freed_follows (peer_of st q) v q h) (λ l. cold_follows)
     rule_follows (Own TakeDeactivation) (Word v) = at_each (Follows new c) (λ j p. (deactivation_heard v j p).local) st.peers q (cold_peer Old) (told_follows (peer_of st q) v q h) (λ l. cold_follows)
     rule_follows (Own ReadStamp) (Word v) = old
@@ -203,6 +204,8 @@ module _ (new : Bool) (c : ℕ) where
     rule_follows (Own WriteStamp) (Word v) = old
     rule_follows (Own StoreMask) (Word v) = old
     rule_follows (Own TakeActivation) (Word v) = old
+    rule_follows (Own StoreBeat) (Word v) = old
+    rule_follows (Own StoreOffline) (Word v) = old
     rule_follows (Own m) Failed = old
 
     ruled_follows : (o : Option Rule) (a : Answer) → Follows new c (peer_of (after_ruled su st o a) q)

@@ -11,13 +11,13 @@ use Rattle.xp_script.specs.declared.part.ScenarioPart.{ScenarioPart}
 use Rattle.xp_script.specs.declared.scenario.Scenario.{Scenario}
 use Rattle.xp_script.specs.Lawful.{IsLawful}
 use Rattle.xp_script.specs.Parts.{part_of}
-use Rattle.xp_protocol.specs.declared.rule.PeerRule.TheVariants.{AskActivation, TakeFlags, CloseArea, ZeroMagic, ClearOldBit, Prepare, OpenArea, SetEngagementBit, ReadRecord, StoreEcho, StoreSecond, ClearEngagementBit, LookAtPage, ClearDeactivationBit, TellPartner}
-use Rattle.xp_protocol.specs.declared.rule.OwnRule.TheVariants.{ReadEngaged, TakeDeactivation, ReadStamp, ZeroMask, ZeroOffline, WriteStamp, StoreMask, TakeActivation}
+use Rattle.xp_protocol.specs.declared.rule.PeerRule.TheVariants.{AskActivation, TakeFlags, CloseArea, ZeroMagic, ClearOldBit, Prepare, OpenArea, SetEngagementBit, ReadRecord, StoreEcho, StoreSecond, ClearEngagementBit, LookAtPage, CheckBeat, ClearDeactivationBit, TellPartner}
+use Rattle.xp_protocol.specs.declared.rule.OwnRule.TheVariants.{ReadEngaged, TakeDeactivation, ReadStamp, ZeroMask, ZeroOffline, WriteStamp, StoreMask, TakeActivation, StoreBeat, StoreOffline}
 use Rattle.xp_protocol.specs.declared.rule.Rule.{Rule}
 use Rattle.xp_protocol.specs.declared.rule.Rule.TheVariants.{Link, Peer as ForPeer, Own}
 use Rattle.xp_protocol.specs.Acts.{MayAct, Aim, aimed, with_aim}
 use Rattle.xp_protocol.specs.Peering.{peer_failed}
-use Rattle.xp_protocol.specs.Rules.{Can, mark_of}
+use Rattle.xp_protocol.specs.Rules.{Can, here_of, mark_of}
 use Rattle.xp_protocol.specs.Runs.{turned, restart_comes, stop_comes, moment_by, is_over}
 use Rattle.xp_protocol.specs.State.{State, Life, Booting, Up, Peer, peer_of}
 use Rattle.xp_protocol.proofs.Slots.{at_peer}
@@ -102,24 +102,27 @@ module _ (s : Scenario) (law : IsLawful s) (p q n v : ℕ) (lp : p < s.count) (l
     rule_here (ForPeer k StoreSecond) can = (i.old.0, λ b up. absurd (up can.0))
     rule_here (ForPeer k ClearEngagementBit) can = (i.old.0, λ b up. absurd (up can.0))
     rule_here (ForPeer k LookAtPage) can = (i.old.0, λ b up. absurd (up can.0))
+    rule_here (ForPeer k CheckBeat) can = (i.old.0, λ b up. absurd (up can.0))
     rule_here (ForPeer k ClearDeactivationBit) can = (i.old.0, λ b up. absurd (up can.0))
     rule_here (ForPeer k TellPartner) can = (i.old.0, λ b up. absurd (up can.0))
     rule_here (Own ReadEngaged) can = (i.old.0, λ b up. absurd (up can.0))
     rule_here (Own TakeDeactivation) can = (i.old.0, λ b up. absurd (up can.0))
     rule_here (Own StoreMask) can = (i.old.0, λ b up. absurd (up can.0))
     rule_here (Own TakeActivation) can = (i.old.0, λ b up. absurd (up can.0))
+    rule_here (Own StoreBeat) can = (i.old.0, λ b up. absurd (up can.0))
+    rule_here (Own StoreOffline) can = (i.old.0, λ b up. absurd (up can.0))
     rule_here (Own WriteStamp) can = (i.old.0, λ b up. absurd (up refl))
     rule_here (Own ReadStamp) can = (i.old.0, λ b up. i.old.1 b (λ f. (let t : Up ≡ Booting = sym f ∙ can.0 in absurd (cc))))
     rule_here (Own ZeroMask) can = i.old
     rule_here (Own ZeroOffline) can = i.old
 
-    failed_said : (mark : Option CopyMark) (x : Peer) (bit : ℕ) → Said x.engage.cleared bit → Said (peer_failed mark x).engage.cleared bit
-    failed_said None x bit h = h
-    failed_said (Some mark) x bit h = h
+    failed_said : (turn : ℕ) (mark : Option CopyMark) (x : Peer) (bit : ℕ) → Said x.engage.cleared bit → Said (peer_failed turn mark x).engage.cleared bit
+    failed_said turn None x bit h = h
+    failed_said turn (Some mark) x bit h = h
 
     failed_here : (r : Rule) → OldAt w (part_ruled su (σ p) r Failed)
     failed_here (Link k c m) = (i.old.0, λ b up. at_peer (λ (x : Peer). Said x.engage.cleared (bit_at (w q (Open ENGAGED)) p)) st.peers k _ q (λ e. subst (λ (j : ℕ). Said (peer_of st j).engage.cleared (bit_at (w q (Open ENGAGED)) p)) e (i.old.1 b up)) (i.old.1 b up))
-    failed_here (ForPeer k m) = (i.old.0, λ b up. at_peer (λ (x : Peer). Said x.engage.cleared (bit_at (w q (Open ENGAGED)) p)) st.peers k _ q (λ e. failed_said (mark_of su st (ForPeer k m)) (peer_of st k) (bit_at (w q (Open ENGAGED)) p) (subst (λ (j : ℕ). Said (peer_of st j).engage.cleared (bit_at (w q (Open ENGAGED)) p)) e (i.old.1 b up))) (i.old.1 b up))
+    failed_here (ForPeer k m) = (i.old.0, λ b up. at_peer (λ (x : Peer). Said x.engage.cleared (bit_at (w q (Open ENGAGED)) p)) st.peers k _ q (λ e. failed_said (here_of su st k).turn (mark_of su st (ForPeer k m)) (peer_of st k) (bit_at (w q (Open ENGAGED)) p) (subst (λ (j : ℕ). Said (peer_of st j).engage.cleared (bit_at (w q (Open ENGAGED)) p)) e (i.old.1 b up))) (i.old.1 b up))
     failed_here (Own m) = i.old
 
     moment_by_here : (turns : ℕ) (b stops : Bool) → (let y = moment_by su b stops (turned turns st) in Old n v y.life y.clock.boots (peer_of y q).engage.cleared (bit_at (w q (Open ENGAGED)) p))

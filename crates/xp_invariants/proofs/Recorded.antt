@@ -7,8 +7,8 @@ use Rattle.xp_protocol.specs.declared.rule.AreaWord.TheVariants.{SessionWord, Ec
 use Rattle.xp_protocol.specs.declared.rule.RingRule.TheVariants.{ReadGet, WriteEntryWord, AcceptMessage}
 use Rattle.xp_protocol.specs.declared.rule.PullRule.TheVariants.{ReadCounters, ReadEntry}
 use Rattle.xp_protocol.specs.declared.rule.LinkRule.TheVariants.{Ring, Pull, Acknowledge, SetFlag, ZeroGet, ZeroPut, StoreArgument, ReadArgument}
-use Rattle.xp_protocol.specs.declared.rule.PeerRule.TheVariants.{AskActivation, TakeFlags, CloseArea, ZeroMagic, ClearOldBit, Prepare, OpenArea, SetEngagementBit, ReadRecord, StoreEcho, StoreSecond, ClearEngagementBit, LookAtPage, ClearDeactivationBit, TellPartner}
-use Rattle.xp_protocol.specs.declared.rule.OwnRule.TheVariants.{ReadEngaged, TakeDeactivation, ReadStamp, ZeroMask, ZeroOffline, WriteStamp, StoreMask, TakeActivation}
+use Rattle.xp_protocol.specs.declared.rule.PeerRule.TheVariants.{AskActivation, TakeFlags, CloseArea, ZeroMagic, ClearOldBit, Prepare, OpenArea, SetEngagementBit, ReadRecord, StoreEcho, StoreSecond, ClearEngagementBit, LookAtPage, CheckBeat, ClearDeactivationBit, TellPartner}
+use Rattle.xp_protocol.specs.declared.rule.OwnRule.TheVariants.{ReadEngaged, TakeDeactivation, ReadStamp, ZeroMask, ZeroOffline, WriteStamp, StoreMask, TakeActivation, StoreBeat, StoreOffline}
 use Rattle.xp_protocol.specs.declared.rule.Rule.{Rule}
 use Rattle.xp_protocol.specs.declared.rule.Rule.TheVariants.{Link, Peer as ForPeer, Own}
 use Rattle.xp_protocol.specs.Peering.{field_number, field_word, session_next, or_zero}
@@ -80,6 +80,7 @@ module _ (su : ScenarioPart) (st : State) (w : Words) (p q f : ℕ) (some : 0 < 
   record_kept (ForPeer k StoreSecond) can = inl (magic_written w su.part k _ p q f some)
   record_kept (ForPeer k ClearEngagementBit) can = inl refl
   record_kept (ForPeer k LookAtPage) can = inl refl
+  record_kept (ForPeer k CheckBeat) can = inl refl
   record_kept (ForPeer k ClearDeactivationBit) can = inl refl
   record_kept (ForPeer k TellPartner) can = inl refl
   record_kept (Own ReadEngaged) can = inl refl
@@ -90,3 +91,5 @@ module _ (su : ScenarioPart) (st : State) (w : Words) (p q f : ℕ) (some : 0 < 
   record_kept (Own WriteStamp) can = inl refl
   record_kept (Own StoreMask) can = inl refl
   record_kept (Own TakeActivation) can = inl refl
+  record_kept (Own StoreBeat) can = inl refl
+  record_kept (Own StoreOffline) can = inl refl

@@ -16,8 +16,8 @@ use Rattle.xp_script.specs.Lawful.{IsLawful}
 use Rattle.xp_script.specs.Parts.{part_of}
 use Rattle.xp_protocol.specs.declared.rule.AreaWord.TheVariants.{SessionWord, EchoWord, PlaceWord, ArgsWord, FlagWord, CounterWord}
 use Rattle.xp_protocol.specs.declared.rule.PeerRule.{PeerRule}
-use Rattle.xp_protocol.specs.declared.rule.PeerRule.TheVariants.{AskActivation, TakeFlags, CloseArea, ZeroMagic, ClearOldBit, Prepare, OpenArea, SetEngagementBit, ReadRecord, StoreEcho, StoreSecond, ClearEngagementBit, LookAtPage, ClearDeactivationBit, TellPartner}
-use Rattle.xp_protocol.specs.declared.rule.OwnRule.TheVariants.{ReadEngaged, TakeDeactivation, ReadStamp, ZeroMask, ZeroOffline, WriteStamp, StoreMask, TakeActivation}
+use Rattle.xp_protocol.specs.declared.rule.PeerRule.TheVariants.{AskActivation, TakeFlags, CloseArea, ZeroMagic, ClearOldBit, Prepare, OpenArea, SetEngagementBit, ReadRecord, StoreEcho, StoreSecond, ClearEngagementBit, LookAtPage, CheckBeat, ClearDeactivationBit, TellPartner}
+use Rattle.xp_protocol.specs.declared.rule.OwnRule.TheVariants.{ReadEngaged, TakeDeactivation, ReadStamp, ZeroMask, ZeroOffline, WriteStamp, StoreMask, TakeActivation, StoreBeat, StoreOffline}
 use Rattle.xp_protocol.specs.declared.rule.Rule.{Rule}
 use Rattle.xp_protocol.specs.declared.rule.Rule.TheVariants.{Link, Peer as ForPeer, Own}
 use Rattle.xp_protocol.specs.Acts.{MayAct, Aim, aimed, with_aim, command_begun}
@@ -44,8 +44,8 @@ module _ (base low : ℕ) where
   High p = low ≤ base + p.engage.count
 
   module _ (y : Here) where
-    meets : (x : Peer) → High x → High (try_contact y.stamp x).local
-    meets x k = cond_peer High (x.engage.second && (x.engage.shown && not (is_some x.contact))) (contact_made y.stamp x) (same_peer x) k k
+    meets : (x : Peer) → High x → High (try_contact y.turn y.stamp x).local
+    meets x k = cond_peer High (x.engage.second && (x.engage.shown && not (is_some x.contact))) (contact_made y.turn y.stamp x) (same_peer x) k k
 
     reads : (p : Peer) (o : Option Reading) (v : ℕ) → High p → High (record_read y p o v).local
     reads p None v h = cond_peer High (eqb v 0) _ _ h (cond_peer High (is_magic v) _ _ h h)
@@ -75,6 +75,7 @@ module _ (base low : ℕ) where
     peer_high p StoreSecond v h = meets (record p { engage = record p.engage { second = true } }) h
     peer_high p ClearEngagementBit v h = h
     peer_high p LookAtPage v h = cond_peer High (eqb (length (p.paging ++ v ∷ [])) 5) _ _ h h
+    peer_high p CheckBeat v h = h
     peer_high p ClearDeactivationBit v h = h
     peer_high p TellPartner v h = h
 
@@ -82,9 +83,9 @@ module _ (base low : ℕ) where
     numbered_high None p m v h = peer_high p m v h
     numbered_high (Some mark) p m v h = peer_high (peer_numbered (Some mark) p) m v h
 
-  failed_high : (mark : Option CopyMark) (p : Peer) → High p → High (peer_failed mark p)
-  failed_high None p h = h
-  failed_high (Some mark) p h = h
+  failed_high : (turn : ℕ) (mark : Option CopyMark) (p : Peer) → High p → High (peer_failed turn mark p)
+  failed_high turn None p h = h
+  failed_high turn (Some mark) p h = h
 
   freed_high : (p : Peer) (v q : ℕ) → High p → High (peer_read v q p).local
   freed_high p v q h = cond_peer High (is_left p.engage && not (is_flagged v q)) (area_off p) (same_peer p) h h
@@ -131,7 +132,7 @@ module _ (s : Scenario) (law : IsLawful s) (p q low : ℕ) (lp : p < s.count) (l
     rule_high : (r : Rule) (a : Answer) → High (base st.life) low (peer_of (after_answer su st r a) q)
     rule_high (Link k c m) a = at_peer (High (base st.life) low) st.peers k _ q (λ e. subst (λ (j : ℕ). High (base st.life) low (peer_of st j)) e old_high) old_high
     rule_high (ForPeer k m) (Word v) = at_peer (High (base st.life) low) st.peers k _ q (λ e. numbered_high (base st.life) low (here_of su st k) (mark_of su st (ForPeer k m)) (peer_of st k) m v (subst (λ (j : ℕ). High (base st.life) low (peer_of st j)) e old_high)) old_high
-    rule_high (ForPeer k m) Failed = at_peer (High (base st.life) low) st.peers k _ q (λ e. failed_high (base st.life) low (mark_of su st (ForPeer k m)) (peer_of st k) (subst (λ (j : ℕ). High (base st.life) low (peer_of st j)) e old_high)) old_high
+    rule_high (ForPeer k m) Failed = at_peer (High (base st.life) low) st.peers k _ q (λ e. failed_high (base st.life) low (here_of su st k).turn (mark_of su st (ForPeer k m)) (peer_of st k) (subst (λ (j : ℕ). High (base st.life) low (peer_of st j)) e old_high)) old_high
     rule_high (Own ReadEngaged) (Word v) = at_each (High (base st.life) low) (λ j x. (peer_read v j x).local) st.peers q (cold_peer Old) (freed_high (base st.life) low (peer_of st q) v q old_high) (λ l. absurd (omega (arith, l, lq, (i.standing.clear.met.all p lp).partners)))
     rule_high (Own TakeDeactivation) (Word v) = at_each (High (base st.life) low) (λ j x. (deactivation_heard v j x).local) st.peers q (cold_peer Old) (told_high (base st.life) low (peer_of st q) v q old_high) (λ l. absurd (omega (arith, l, lq, (i.standing.clear.met.all p lp).partners)))
     rule_high (Own ReadStamp) (Word v) = old_high
@@ -140,6 +141,8 @@ module _ (s : Scenario) (law : IsLawful s) (p q low : ℕ) (lp : p < s.count) (l
     rule_high (Own WriteStamp) (Word v) = old_high
     rule_high (Own StoreMask) (Word v) = old_high
     rule_high (Own TakeActivation) (Word v) = old_high
+    rule_high (Own StoreBeat) (Word v) = old_high
+    rule_high (Own StoreOffline) (Word v) = old_high
     rule_high (Own m) Failed = old_high
 
     same_stamp : (r : Rule) → (r ≡ Own WriteStamp → ⊥) → does_rule su st r w p (Open STAMP) ≡ w p (Open STAMP)
@@ -158,6 +161,8 @@ module _ (s : Scenario) (law : IsLawful s) (p q low : ℕ) (lp : p < s.count) (l
     rule_here (Own ZeroOffline) can = calm (Own ZeroOffline) (λ e. absurd (cc))
     rule_here (Own StoreMask) can = calm (Own StoreMask) (λ e. absurd (cc))
     rule_here (Own TakeActivation) can = calm (Own TakeActivation) (λ e. absurd (cc))
+    rule_here (Own StoreBeat) can = calm (Own StoreBeat) (λ e. absurd (cc))
+    rule_here (Own StoreOffline) can = calm (Own StoreOffline) (λ e. absurd (cc))
     rule_here (Own ReadStamp) can = halts (ltb (w p (Open STAMP)) 4294967295) where
       halts : (b : Bool) → low ≤ latest (cond b st.life Halted) (w p (Open STAMP)) (peer_of st q).engage.count
       halts true = i.high

@@ -1,5 +1,5 @@
--- Which lawful scenarios the rules of today can run: those that check no heartbeats, use neither
--- the network device nor its channel, neither go offline nor online, and poke no word.
+-- Which lawful scenarios the rules of today can run: those that use neither the network device nor
+-- its channel, and poke no word.
 use Rattle.std.specs.Prelude.{◌≡◌, ◌≢◌, ℕ, ◌<◌, [], ⊤}
 use Rattle.std.specs.List.{AllByRecursion}
 use Rattle.xp_script.specs.declared.limits.TheConstants.{DEVICE_CHANNEL}
@@ -22,8 +22,6 @@ IsBuiltCommand (commands.Closed q c) = c ≢ DEVICE_CHANNEL
 IsBuiltCommand (commands.Drain q c) = c ≢ DEVICE_CHANNEL
 IsBuiltCommand (commands.Net frame) = ⊥
 IsBuiltCommand (commands.Frames frames) = ⊥
-IsBuiltCommand commands.Offline = ⊥
-IsBuiltCommand commands.Online = ⊥
 IsBuiltCommand _ = ⊤
 
 -- nothing writes the words from outside
@@ -31,7 +29,6 @@ abbrev pub HasNoPokes : Scenario → Type 0
 HasNoPokes s = s.pokes ≡ []
 
 pub record HasBuiltSettings (s : Scenario) : Type 0 where
-  pub check : s.check ≡ 0
   pub warms : AllByRecursion IsBuiltWarm s.warms
   pub pokes : HasNoPokes s
 

@@ -23,7 +23,7 @@ pub fn is_built(scenario: &Scenario) -> bool
 fn has_built_settings(scenario: &Scenario) -> bool
     ensures { IsTrue result ↔ HasBuiltSettings scenario.now }
 {
-    scenario.check == 0 && are_built_warms(&scenario.warms.list) && scenario.pokes.list.is_empty()
+    are_built_warms(&scenario.warms.list) && scenario.pokes.list.is_empty()
 }
 
 fn are_built_warms(warms: &[Warm]) -> bool
@@ -89,7 +89,7 @@ fn is_built_command(command: &Command) -> bool
         Command::Connected { channel, .. } => is_built_channel(*channel),
         Command::Closed { channel, .. } => is_built_channel(*channel),
         Command::Drain { channel, .. } => is_built_channel(*channel),
-        Command::Net { .. } | Command::Frames { .. } | Command::Offline | Command::Online => false,
+        Command::Net { .. } | Command::Frames { .. } => false,
         _ => true,
     }
 }

@@ -19,7 +19,7 @@ made r v = record { rule = r; answer = v }
 
 -- of partition 0 in turn 1, where the mask has the partner's bit
 abbrev here : ℕ → Here
-here stamp = record { part = 0; version = VERSION; turn = 1; wait = back_off_of 2; masked = true; stamp = stamp; read = true }
+here stamp = record { part = 0; version = VERSION; turn = 1; wait = back_off_of 2; check = 0; masked = true; stamp = stamp; read = true }
 
 abbrev Runs : ℕ → Peer → List Made → Type 0
 Runs t p [] = Unit {0}

@@ -23,8 +23,8 @@ use Rattle.xp_protocol.specs.declared.rule.PullRule.TheVariants.{ReadCounters, R
 use Rattle.xp_protocol.specs.declared.rule.LinkRule.{LinkRule}
 use Rattle.xp_protocol.specs.declared.rule.LinkRule.TheVariants.{Ring, Pull, Acknowledge, SetFlag, ZeroGet, ZeroPut, StoreArgument, ReadArgument}
 use Rattle.xp_protocol.specs.declared.rule.PeerRule.{PeerRule}
-use Rattle.xp_protocol.specs.declared.rule.PeerRule.TheVariants.{AskActivation, TakeFlags, CloseArea, ZeroMagic, ClearOldBit, Prepare, OpenArea, SetEngagementBit, ReadRecord, StoreEcho, StoreSecond, ClearEngagementBit, LookAtPage, ClearDeactivationBit, TellPartner}
-use Rattle.xp_protocol.specs.declared.rule.OwnRule.TheVariants.{ReadEngaged, TakeDeactivation, ReadStamp, ZeroMask, ZeroOffline, WriteStamp, StoreMask, TakeActivation}
+use Rattle.xp_protocol.specs.declared.rule.PeerRule.TheVariants.{AskActivation, TakeFlags, CloseArea, ZeroMagic, ClearOldBit, Prepare, OpenArea, SetEngagementBit, ReadRecord, StoreEcho, StoreSecond, ClearEngagementBit, LookAtPage, CheckBeat, ClearDeactivationBit, TellPartner}
+use Rattle.xp_protocol.specs.declared.rule.OwnRule.TheVariants.{ReadEngaged, TakeDeactivation, ReadStamp, ZeroMask, ZeroOffline, WriteStamp, StoreMask, TakeActivation, StoreBeat, StoreOffline}
 use Rattle.xp_protocol.specs.declared.rule.Rule.{Rule}
 use Rattle.xp_protocol.specs.declared.rule.Rule.TheVariants.{Link, Peer as ForPeer, Own}
 use Rattle.xp_script.specs.declared.part.ScenarioPart.{ScenarioPart}
@@ -87,9 +87,9 @@ module _ (lb : Life) (r : Peer) where
   no_contact None h = refl
   no_contact (Some m) h = absurd (cc)
 
-  pub contact_kept : (p : Peer) (z : Six) → p.engage.area ≡ Ready → p.engage.bit ≡ true → Pair Up p lb r z → Pair Up (try_contact z.stamp p).local lb r z
-  contact_kept p z ready inside h = by (p.engage.second && (p.engage.shown && not (is_some p.contact))) refl where
-    by : (b : Bool) → (p.engage.second && (p.engage.shown && not (is_some p.contact))) ≡ b → Pair Up (cond b (contact_made z.stamp p) (same_peer p)).local lb r z
+  pub contact_kept : (turn : ℕ) (p : Peer) (z : Six) → p.engage.area ≡ Ready → p.engage.bit ≡ true → Pair Up p lb r z → Pair Up (try_contact turn z.stamp p).local lb r z
+  contact_kept turn p z ready inside h = by (p.engage.second && (p.engage.shown && not (is_some p.contact))) refl where
+    by : (b : Bool) → (p.engage.second && (p.engage.shown && not (is_some p.contact))) ≡ b → Pair Up (cond b (contact_made turn z.stamp p) (same_peer p)).local lb r z
     by false e = h
     by true e =
         let a = and_parts p.engage.second (p.engage.shown && not (is_some p.contact)) e in
@@ -117,14 +117,14 @@ module _ (lb : Life) (r : Peer) where
     first true t = h
     first false t = second (is_magic v) t
 
-  last_kept : (p : Peer) (z : Six) (o : Reading) → p.engage.reading ≡ Some o → o.done ≡ 7 → p.engage.area ≡ Ready → p.engage.bit ≡ true → Pair Up p lb r z → Pair Up (last_read z.stamp p o).local lb r z
-  last_kept p z o i g ready inside h = by (has_shown z.stamp p.engage o) refl where
-    by : (b : Bool) → has_shown z.stamp p.engage o ≡ b → Pair Up (cond b (try_contact z.stamp (record p { engage = record p.engage { shown = true; reading = None } })) (same_peer (record p { engage = record p.engage { reading = None } }))).local lb r z
+  last_kept : (turn : ℕ) (p : Peer) (z : Six) (o : Reading) → p.engage.reading ≡ Some o → o.done ≡ 7 → p.engage.area ≡ Ready → p.engage.bit ≡ true → Pair Up p lb r z → Pair Up (last_read turn z.stamp p o).local lb r z
+  last_kept turn p z o i g ready inside h = by (has_shown z.stamp p.engage o) refl where
+    by : (b : Bool) → has_shown z.stamp p.engage o ≡ b → Pair Up (cond b (try_contact turn z.stamp (record p { engage = record p.engage { shown = true; reading = None } })) (same_peer (record p { engage = record p.engage { reading = None } }))).local lb r z
     by false t = both_none (left Up p z) (right lb r z) h
     by true t =
         let a = and_parts o.after_echo _ t in
         let c = and_parts (eqb o.magic second_magic) _ a.1 in
-        contact_kept (record p { engage = record p.engage { shown = true; reading = None } }) z ready inside (both_shown (left Up p z) (right lb r z) h o i g a.0 (eqb-true o.echo (session_word (session_now z.stamp p.engage)) c.1))
+        contact_kept turn (record p { engage = record p.engage { shown = true; reading = None } }) z ready inside (both_shown (left Up p z) (right lb r z) h o i g a.0 (eqb-true o.echo (session_word (session_now z.stamp p.engage)) c.1))
 
   record_kept : (y : Here) (p : Peer) (z : Six) (o : Option Reading) (v : ℕ) → p.engage.reading ≡ o → (read_place o ≡ 0 → v ≡ z.their_magic) → (read_place o ≡ 1 → v ≡ z.their_one) → (read_place o ≡ 2 → v ≡ z.their_two) → p.engage.area ≡ Ready → p.engage.bit ≡ true → Pair Up p lb r z → Pair Up (record_read (record y { stamp = z.stamp }) p o v).local lb r z
   record_kept y p z None v i a b c ready inside h = magic_kept Up p z v (a refl) ready inside h
@@ -136,15 +136,15 @@ module _ (lb : Life) (r : Peer) where
     place true n m = both_none (left Up p z) (right lb r z) h
     place false n m = both_next (left Up p z) (right lb r z) h o i (λ e. (let t = eq-eqb o.done 1 e in absurd (cc))) (λ e. (let t = eq-eqb o.done 2 e in absurd (cc)))
 
-    seven : (t : Bool) → eqb o.done 7 ≡ t → eqb o.done 1 ≡ false → eqb o.done 2 ≡ false → P (cond t (last_read z.stamp p o) (place_read y.part p o v))
-    seven true t n m = last_kept p z o i (eqb-true o.done 7 t) ready inside h
+    seven : (t : Bool) → eqb o.done 7 ≡ t → eqb o.done 1 ≡ false → eqb o.done 2 ≡ false → P (cond t (last_read y.turn z.stamp p o) (place_read y.part p o v))
+    seven true t n m = last_kept y.turn p z o i (eqb-true o.done 7 t) ready inside h
     seven false t n m = place (is_wrong y.part o.done v) n m
 
-    two : (t : Bool) → eqb o.done 2 ≡ t → eqb o.done 1 ≡ false → P (cond t (echo_read p o v) (cond (eqb o.done 7) (last_read z.stamp p o) (place_read y.part p o v)))
+    two : (t : Bool) → eqb o.done 2 ≡ t → eqb o.done 1 ≡ false → P (cond t (echo_read p o v) (cond (eqb o.done 7) (last_read y.turn z.stamp p o) (place_read y.part p o v)))
     two true t n = let d = eqb-true o.done 2 t in subst (λ (x : ℕ). P (echo_read p o x)) (sym (c d)) (both_two (left Up p z) (right lb r z) h o i d)
     two false t n = seven (eqb o.done 7) refl n t
 
-    one : (t : Bool) → eqb o.done 1 ≡ t → P (cond t (session_read p o v) (cond (eqb o.done 2) (echo_read p o v) (cond (eqb o.done 7) (last_read z.stamp p o) (place_read y.part p o v))))
+    one : (t : Bool) → eqb o.done 1 ≡ t → P (cond t (session_read p o v) (cond (eqb o.done 2) (echo_read p o v) (cond (eqb o.done 7) (last_read y.turn z.stamp p o) (place_read y.part p o v))))
     one true t = subst (λ (x : ℕ). P (session_read p o x)) (sym (b (eqb-true o.done 1 t))) (both_read (left Up p z) (right lb r z) h o inside i)
     one false t = two (eqb o.done 2) refl t
 
@@ -180,8 +180,8 @@ module _ (lb : Life) (r : Peer) where
   peer_kept y la p z StoreSecond v u t can l h =
       let i = h.own.fit.echo can.2 can.0 in
       let p' = record p { engage = record p.engage { second = true } } in
-      let P : Life → ℕ → Type 0 = λ i n. Pair i (try_contact n p').local lb r (record z { magic = second_magic }) in
-      subst (λ (n : ℕ). P la n) (sym (t u)) (subst (λ (i : Life). P i z.stamp) (sym u) (contact_kept p' (record z { magic = second_magic }) can.0 i (subst (λ (i : Life). Pair i p' lb r (record z { magic = second_magic })) u (both_seconds (left la p z) (right lb r z) h second_magic can.0 can.2))))
+      let P : Life → ℕ → Type 0 = λ i n. Pair i (try_contact y.turn n p').local lb r (record z { magic = second_magic }) in
+      subst (λ (n : ℕ). P la n) (sym (t u)) (subst (λ (i : Life). P i z.stamp) (sym u) (contact_kept y.turn p' (record z { magic = second_magic }) can.0 i (subst (λ (i : Life). Pair i p' lb r (record z { magic = second_magic })) u (both_seconds (left la p z) (right lb r z) h second_magic can.0 can.2))))
   peer_kept y la p z ClearEngagementBit v u t can l h = both_leaves (left la p z) (right lb r z) h (out p.contact h.own.fit.active h.own.fit.second can.2) (unread p.engage.reading can.1) (short can.2) where
     unread : (o : Option Reading) → (is_some o || (ltb 0 (length p.paging) || any_copied p.links)) ≡ false → o ≡ None
     unread None e = refl
@@ -196,14 +196,15 @@ module _ (lb : Life) (r : Peer) where
     out (Some m) a s (inl e) = let t = a refl in let y = s t.0 t.2 in absurd (cc)
     out (Some m) a s (inr e) = let t : Ready ≡ Leaving = sym (a refl).0 ∙ e.0 in absurd (cc)
   peer_kept y la p z LookAtPage v u t can l h = page_kept y.version la p z (p.paging ++ v ∷ []) v h
+  peer_kept y la p z CheckBeat v u t can l h = h
   peer_kept y la p z ClearDeactivationBit v u t can l h = h
   peer_kept y la p z TellPartner v u t can l h = h
 
   -- a load of a copy failed
-  pub ended_kept : (la : Life) (p : Peer) (z : Six) (mark : Option CopyMark) → Pair la p lb r z → Pair la (peer_failed mark p) lb r z
-  ended_kept la p z None h = h
-  ended_kept la p z (Some mark) h = by mark.kind where
-    by : (kind : CopyKind) → Pair la (peer_failed (Some (record mark { kind = kind })) p) lb r z
+  pub ended_kept : (turn : ℕ) (la : Life) (p : Peer) (z : Six) (mark : Option CopyMark) → Pair la p lb r z → Pair la (peer_failed turn mark p) lb r z
+  ended_kept turn la p z None h = h
+  ended_kept turn la p z (Some mark) h = by mark.kind where
+    by : (kind : CopyKind) → Pair la (peer_failed turn (Some (record mark { kind = kind })) p) lb r z
     by RecordCopy = both_none (left la p z) (right lb r z) h
     by kind = h
 
@@ -251,6 +252,7 @@ can_numbered y (Some mark) p StoreEcho h = h
 can_numbered y (Some mark) p StoreSecond h = h
 can_numbered y (Some mark) p ClearEngagementBit h = h
 can_numbered y (Some mark) p LookAtPage h = h
+can_numbered y (Some mark) p CheckBeat h = h
 can_numbered y (Some mark) p ClearDeactivationBit h = h
 can_numbered y (Some mark) p TellPartner h = h
 
@@ -269,6 +271,7 @@ loads_numbered (Some mark) p z StoreEcho v h = h
 loads_numbered (Some mark) p z StoreSecond v h = h
 loads_numbered (Some mark) p z ClearEngagementBit v h = h
 loads_numbered (Some mark) p z LookAtPage v h = h
+loads_numbered (Some mark) p z CheckBeat v h = h
 loads_numbered (Some mark) p z ClearDeactivationBit v h = h
 loads_numbered (Some mark) p z TellPartner v h = h
 
@@ -371,6 +374,7 @@ module _ (s : Scenario) (lawful : (p : ℕ) → p < s.count → IsLawfulPart (pa
     away (ForPeer k StoreEcho) p q lp lq n o = six_away w (Store _) a (Record k 2) p q n o
     away (ForPeer k StoreSecond) p q lp lq n o = six_away w (Store _) a (Record k 0) p q n o
     away (ForPeer k LookAtPage) p q lp lq n o = refl
+    away (ForPeer k CheckBeat) p q lp lq n o = refl
     away (ForPeer k ClearDeactivationBit) p q lp lq n o = refl
     away (ForPeer k TellPartner) p q lp lq n o = refl
     away (ForPeer k ClearEngagementBit) p q lp lq n o = six_bits w (And (all_but a)) k p q (and_bits w a k q p (low a la) (low p lp) n) (and_bits w a k p q (low a la) (low q lq) o) (λ x f. refl) (λ x f. refl) (λ x. refl)
@@ -382,6 +386,8 @@ module _ (s : Scenario) (lawful : (p : ℕ) → p < s.count → IsLawfulPart (pa
     away (Own ZeroOffline) p q lp lq n o = refl
     away (Own StoreMask) p q lp lq n o = refl
     away (Own TakeActivation) p q lp lq n o = refl
+    away (Own StoreBeat) p q lp lq n o = refl
+    away (Own StoreOffline) p q lp lq n o = refl
 
     -- the own words for another partner
     prepare_else : (k : ℕ) (x : AreaWord) (v q : ℕ) → (q ≡ a → ⊥) → (q ≡ k → ⊥) → six (does (Store v) a (area_place k x) w) a q ≡ six w a q
@@ -408,6 +414,7 @@ module _ (s : Scenario) (lawful : (p : ℕ) → p < s.count → IsLawfulPart (pa
     peer_else k StoreEcho q l n o = six_else w a k 2 _ q n o
     peer_else k StoreSecond q l n o = six_else w a k 0 _ q n o
     peer_else k LookAtPage q l n o = refl
+    peer_else k CheckBeat q l n o = refl
     peer_else k ClearDeactivationBit q l n o = refl
     peer_else k TellPartner q l n o = refl
     peer_else k ClearEngagementBit q l n o = six_bits w (And (all_but a)) k a q (bits_else k q 0 o (And (all_but a))) (and_bits w a k a q (low a la) (low q l) n) (λ x f. refl) (λ x f. refl) (λ x. refl)
@@ -440,6 +447,7 @@ module _ (s : Scenario) (lawful : (p : ℕ) → p < s.count → IsLawfulPart (pa
     peer_six k StoreEcho l n u = six_here w a k 2 _ n
     peer_six k StoreSecond l n u = six_here w a k 0 _ n
     peer_six k LookAtPage l n u = refl
+    peer_six k CheckBeat l n u = refl
     peer_six k ClearDeactivationBit l n u = refl
     peer_six k TellPartner l n u = refl
     peer_six k ClearEngagementBit l n u = six_clear w a k (low a la) (low k l) n
@@ -458,6 +466,7 @@ module _ (s : Scenario) (lawful : (p : ℕ) → p < s.count → IsLawfulPart (pa
     peer_loads k StoreSecond = tt
     peer_loads k ClearEngagementBit = tt
     peer_loads k LookAtPage = tt
+    peer_loads k CheckBeat = tt
     peer_loads k ClearDeactivationBit = tt
     peer_loads k TellPartner = tt
 
@@ -508,6 +517,8 @@ module _ (s : Scenario) (lawful : (p : ℕ) → p < s.count → IsLawfulPart (pa
         at_each P (λ j p. (deactivation_heard v j p).local) st.peers q (cold_peer Old) (told_kept (σ q).state.life (peer_of (σ q).state a) st.life (peer_of st q) (six w a q) v q (old q l n)) (λ f. absurd (omega (arith, f, l, (met.all a la).partners)))
     ruled (Own StoreMask) can q l n = old q l n
     ruled (Own TakeActivation) can q l n = old q l n
+    ruled (Own StoreBeat) can q l n = old q l n
+    ruled (Own StoreOffline) can q l n = old q l n
     ruled (Own ZeroMask) can q l n = old q l n
     ruled (Own ZeroOffline) can q l n = old q l n
     ruled (Own ReadStamp) can q l n = halts (ltb (w a (Open STAMP)) 4294967295) where
@@ -562,6 +573,7 @@ module _ (s : Scenario) (lawful : (p : ℕ) → p < s.count → IsLawfulPart (pa
     still (ForPeer k StoreSecond) p n = refl
     still (ForPeer k ClearEngagementBit) p n = refl
     still (ForPeer k LookAtPage) p n = refl
+    still (ForPeer k CheckBeat) p n = refl
     still (ForPeer k ClearDeactivationBit) p n = refl
     still (ForPeer k TellPartner) p n = refl
     still (Own ReadEngaged) p n = refl
@@ -571,6 +583,8 @@ module _ (s : Scenario) (lawful : (p : ℕ) → p < s.count → IsLawfulPart (pa
     still (Own ZeroOffline) p n = refl
     still (Own StoreMask) p n = refl
     still (Own TakeActivation) p n = refl
+    still (Own StoreBeat) p n = refl
+    still (Own StoreOffline) p n = refl
 
     pub own_stamp : (r : Rule) → (r ≡ Own WriteStamp → ⊥) → words_after r a (Open STAMP) ≡ w a (Open STAMP)
     own_stamp (Own WriteStamp) n = absurd (n refl)
@@ -603,6 +617,7 @@ module _ (s : Scenario) (lawful : (p : ℕ) → p < s.count → IsLawfulPart (pa
     own_stamp (ForPeer k StoreSecond) n = refl
     own_stamp (ForPeer k ClearEngagementBit) n = refl
     own_stamp (ForPeer k LookAtPage) n = refl
+    own_stamp (ForPeer k CheckBeat) n = refl
     own_stamp (ForPeer k ClearDeactivationBit) n = refl
     own_stamp (ForPeer k TellPartner) n = refl
     own_stamp (Own ReadEngaged) n = refl
@@ -612,6 +627,8 @@ module _ (s : Scenario) (lawful : (p : ℕ) → p < s.count → IsLawfulPart (pa
     own_stamp (Own ZeroOffline) n = refl
     own_stamp (Own StoreMask) n = refl
     own_stamp (Own TakeActivation) n = refl
+    own_stamp (Own StoreBeat) n = refl
+    own_stamp (Own StoreOffline) n = refl
 
     stamped : (r : Rule) → Can su st r → Stamped (after_answer su st r (Word (answer_word su st r w))) (words_after r a (Open STAMP))
     stamped (Own WriteStamp) can = record { up = λ d. sym (stamp_at w a (or_zero st.boot.read + 1)); read = λ d. absurd (cc) }
@@ -642,7 +659,7 @@ module _ (s : Scenario) (lawful : (p : ℕ) → p < s.count → IsLawfulPart (pa
         at_peer P st.peers k _ q (λ e. subst (λ (j : ℕ). P (peer_of st j)) e (old q l n)) (old q l n)
     failed_ruled (ForPeer k m) q l n =
         let P : Peer → Type 0 = λ p. Pair st.life p (σ q).state.life (peer_of (σ q).state a) (six w a q) in
-        at_peer P st.peers k _ q (λ e. subst (λ (j : ℕ). P (peer_failed (mark_of su st (ForPeer k m)) (peer_of st j))) e (ended_kept (σ q).state.life (peer_of (σ q).state a) st.life (peer_of st q) (six w a q) (mark_of su st (ForPeer k m)) (old q l n))) (old q l n)
+        at_peer P st.peers k _ q (λ e. subst (λ (j : ℕ). P (peer_failed (here_of su st k).turn (mark_of su st (ForPeer k m)) (peer_of st j))) e (ended_kept (σ q).state.life (peer_of (σ q).state a) (here_of su st k).turn st.life (peer_of st q) (six w a q) (mark_of su st (ForPeer k m)) (old q l n))) (old q l n)
     failed_ruled (Own m) q l n = old q l n
 
     pub keeps_failed : (r : Rule) → Can su st r → Met s.count w (at_one σ a (part_ruled su (σ a) r Failed))

@@ -12,7 +12,7 @@ use Rattle.xp_script.specs.declared.log.LogAnswer.{LogAnswer}
 use Rattle.xp_script.specs.declared.log.LogAnswer.TheVariants.{Idle as IdleAnswered}
 use Rattle.xp_script.specs.declared.part.ScenarioPart.{ScenarioPart}
 use Rattle.xp_protocol.specs.declared.rule.OwnRule.{OwnRule}
-use Rattle.xp_protocol.specs.declared.rule.OwnRule.TheVariants.{ReadEngaged, TakeDeactivation, ReadStamp, ZeroMask, ZeroOffline, WriteStamp, StoreMask, TakeActivation}
+use Rattle.xp_protocol.specs.declared.rule.OwnRule.TheVariants.{ReadEngaged, TakeDeactivation, ReadStamp, ZeroMask, ZeroOffline, WriteStamp, StoreMask, TakeActivation, StoreBeat, StoreOffline}
 use Rattle.xp_protocol.specs.declared.rule.Rule.{Rule}
 use Rattle.xp_protocol.specs.declared.rule.Rule.TheVariants.{Link, Peer as ForPeer, Own}
 use Rattle.xp_protocol.specs.Parts.{IsLawfulPart}
@@ -71,6 +71,8 @@ up_own ReadEngaged w e = refl
 up_own TakeDeactivation w e = refl
 up_own StoreMask w e = refl
 up_own TakeActivation w e = refl
+up_own StoreBeat w e = refl
+up_own StoreOffline w e = refl
 
 up_rule : (r : Rule) (a : Answer) (life : Life) → life ≡ life_for r → life ≡ Up → life_after r a life ≡ Up
 up_rule (Link q c m) a life can e = e

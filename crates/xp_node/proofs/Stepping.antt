@@ -47,6 +47,7 @@ loads s st (ForPeer q peers.StoreEcho) = tt
 loads s st (ForPeer q peers.StoreSecond) = tt
 loads s st (ForPeer q peers.ClearEngagementBit) = tt
 loads s st (ForPeer q peers.LookAtPage) = refl
+loads s st (ForPeer q peers.CheckBeat) = refl
 loads s st (ForPeer q peers.ClearDeactivationBit) = tt
 loads s st (ForPeer q peers.TellPartner) = tt
 loads s st (Own owns.ReadEngaged) = tt
@@ -57,6 +58,8 @@ loads s st (Own owns.ZeroOffline) = tt
 loads s st (Own owns.WriteStamp) = tt
 loads s st (Own owns.StoreMask) = tt
 loads s st (Own owns.TakeActivation) = tt
+loads s st (Own owns.StoreBeat) = tt
+loads s st (Own owns.StoreOffline) = tt
 
 marked : (st : State) (r : Rule) (copy : Option Copied) (kind : OpKind) → IfSome copy (λ _. kind ≡ Load) → IfSome (mark_for st r copy) (λ _. kind ≡ Load)
 marked st r None kind h = tt

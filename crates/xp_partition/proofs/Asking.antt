@@ -9,7 +9,7 @@ use Rattle.xp_protocol.specs.declared.rule.PeerRule.{PeerRule}
 use Rattle.xp_protocol.specs.State.{End, Peer, peer_of, end_of, peer_at, link_at}
 use Rattle.xp_protocol.specs.Rules.{here_of}
 use Rattle.xp_plan.specs.EndSteps.{signal_at, counters_at}
-use Rattle.xp_plan.specs.PeerSteps.{engage_at, prepare_at, for_peer}
+use Rattle.xp_plan.specs.PeerSteps.{check_at, engage_at, prepare_at, for_peer}
 use Rattle.xp_plan.specs.Plan.{is_joined, link_rule, link_asked, command_step}
 use Rattle.xp_channel.specs.Channel.{Channel, new_channel}
 use Rattle.xp_engage.specs.Partner.{here}
@@ -65,6 +65,13 @@ engage_is x q h l =
     ap (λ (n : ℕ). for_peer q (engage_at (record (here (x.clock.turns + 1) p.standing) { wait = n }) (peer_seen p))) k.wait
     ∙ ap (λ (y : Peer). for_peer q (engage_at (here_of x.part (state_of x) q) y)) (peer_is x q)
 
+pub check_is : (x : Keeping) (q used : ℕ) → IsKept x → q < x.part.count → for_peer q (check_at (here (x.clock.turns + 1) (partner_at x.partners.list q).standing) used (peer_seen (partner_at x.partners.list q))) ≡ for_peer q (check_at (here_of x.part (state_of x) q) used (peer_of (state_of x) q))
+check_is x q used h l =
+    let k = h.standing q l in
+    let p = partner_at x.partners.list q in
+    ap (λ (n : ℕ). for_peer q (check_at (record (here (x.clock.turns + 1) p.standing) { check = n }) used (peer_seen p))) k.checked
+    ∙ ap (λ (y : Peer). for_peer q (check_at (here_of x.part (state_of x) q) used y)) (peer_is x q)
+
 -- a command's step, where there is such a partner or not
 pub command_some : (x : Keeping) (q c used : ℕ) (m : Command) (p : Partner) → slice_get x.partners.list q ≡ Some p
     → link_rule q c (for_joined (peer_seen p) (command_step used (channel_of p c).end m)) ≡ link_asked (state_of x) q c (command_step used (end_of (state_of x) q c) m)
@@ -88,6 +95,6 @@ command_other x q c = unasked (is_joined (peer_of (state_of x) q)) q c
 
 pub ruleset seen = (peer_is)
 
-pub ruleset stepping = (peer_is, signal_is, counters_is, step_is, prepare_is, engage_is)
+pub ruleset stepping = (peer_is, signal_is, counters_is, step_is, prepare_is, engage_is, check_is)
 
 pub ruleset commanding = (command_some, command_none, command_other)

@@ -17,7 +17,7 @@ use Rattle.xp_protocol.specs.declared.contact.Look.{Look}
 use Rattle.xp_protocol.specs.Parts.{IsLawfulPart, IsLawfulLink}
 use Rattle.xp_protocol.proofs.Lawful.{lawful_link}
 use Rattle.xp_protocol.specs.declared.contact.Look.TheVariants.{Unseen}
-use Rattle.xp_protocol.specs.State.{End, Peer, Contact, Engage, are_new, warm_engage, idle_links, none_going, each, first_contact, first_met, warm_end, warm_peer, size_of, version_of, opened_new, opened_peers, base_peer, first_peers, opening_stamp, link_mask, peer_at}
+use Rattle.xp_protocol.specs.State.{End, Peer, Contact, Engage, Watch, new_watch, are_new, warm_engage, idle_links, none_going, each, first_contact, first_met, warm_end, warm_peer, size_of, version_of, opened_new, opened_peers, base_peer, first_peers, opening_stamp, link_mask, peer_at}
 use Rattle.xp_protocol.specs.Peering.{is_flagged}
 use Rattle.xp_protocol.specs.Logged.{opened_records}
 use Rattle.xp_engage.specs.Partner.{Partner as Standing}
@@ -62,10 +62,10 @@ warm_links : (x : Partner) (theirs window : ℕ) (l : Link) → (peer_seen (warm
     ≡ set (map end_seen (ends_met (is_some x.standing.contact) (warmed theirs window l.channel (size_of l) x).standing.both_new x.channels)) l.channel (warm_end (warmed theirs window l.channel (size_of l) x).standing.both_new l)
 warm_links x theirs window l = map-set end_seen _ l.channel _
 
-same_peer : (p : Peer) (w : Bool) (k : Look) (s : ℕ) (b : Bool) (e : Engage) (m : Option Contact) (es fs : List End) → p.wanted ≡ w → p.look ≡ k → p.flags_seen ≡ s → es ≡ fs
-    → record p { wanted = w; look = k; flags_seen = s; both_new = b; engage = e; contact = m; links = es }
+same_peer : (p : Peer) (w : Bool) (k : Look) (s : ℕ) (v : Watch) (b : Bool) (e : Engage) (m : Option Contact) (es fs : List End) → p.wanted ≡ w → p.look ≡ k → p.flags_seen ≡ s → p.watch ≡ v → es ≡ fs
+    → record p { wanted = w; look = k; flags_seen = s; watch = v; both_new = b; engage = e; contact = m; links = es }
     ≡ record p { both_new = b; engage = e; contact = m; links = fs }
-same_peer p w k s b e m es fs h i j l = cc
+same_peer p w k s v b e m es fs h i j n l = cc
 
 cold_seen : (s : ScenarioPart) (q : ℕ) → peer_seen (cold_partner s q) ≡ base_peer s.links
 unfolding idle_links none_going
@@ -89,7 +89,7 @@ warm_seen s x l (Some m) e v h =
     ∙ ap (λ (b : Bool). set (map end_seen x.channels) l.channel (warm_end b l)) same
     ∙ ap (λ (es : List End). set es l.channel (warm_end new l)) (sym h.1.ends) in
     ap (λ (b : Bool). record (peer_seen y) { both_new = b }) same
-    ∙ same_peer (peer_seen x) true Unseen 0 new warm_engage (Some first_contact) (peer_seen y).links (set (each (λ c e. first_met new e) 0 (peer_seen x).links) l.channel (warm_end new l)) h.1.wanted h.1.look h.1.seen links
+    ∙ same_peer (peer_seen x) true Unseen 0 (new_watch 0) new warm_engage (Some first_contact) (peer_seen y).links (set (each (λ c e. first_met new e) 0 (peer_seen x).links) l.channel (warm_end new l)) h.1.wanted h.1.look h.1.seen h.1.watch links
 
 -- the same partner as it is then
 warm_is : (s : ScenarioPart) (x y : Partner) (l : Link) → y ≡ rooms_of (warmed (version_of s l.partner) (window_of s.count) l.channel (size_of l) x) y
@@ -107,6 +107,7 @@ warm_now s x y l v e seen = subst (λ (m : Option Contact). IsColdOrWarm s l.par
     seen = ap (λ (p : Partner). p.standing.flags_seen) e;
     both_new = ap (λ (p : Partner). p.standing.both_new) e ∙ ap (λ (own : ℕ). are_new own (version_of s l.partner)) v;
     engage = ap (λ (p : Partner). p.standing.engage) e;
+    watch = ap (λ (p : Partner). p.standing.watch) e;
     ends = let k = ap (λ (p : Peer). p.links) seen in
         ap (λ (es : List End). each (λ c e. first_met (opened_new s l.partner) e) 0 es) k
         ∙ met_set (opened_new s l.partner) l 0 (peer_seen x).links l.channel ∙ sym k;
@@ -131,12 +132,13 @@ warm_standing_is s x y l mask o h e = record {
   partner = ap (λ (p : Partner). p.standing.partner) e ∙ h.partner;
   version = ap (λ (p : Partner). p.standing.version) e ∙ h.version;
   wait = ap (λ (p : Partner). p.standing.wait) e;
+  checked = ap (λ (p : Partner). p.standing.check) e ∙ h.checked;
   stamped = ap (λ (p : Partner). p.standing.stamp) e ∙ sym o;
   masked = ap (λ (p : Partner). p.standing.masked) e ∙ sym (bit_same mask l.partner);
 }
 
 other_standing : (s : ScenarioPart) (n mask p q : ℕ) (x : Standing) → q ≢ p → IsStanding s n mask q x → IsStanding s n (bit_or mask (2 ^ p)) q x
-other_standing s n mask p q x d h = record { own = h.own; partner = h.partner; version = h.version; wait = h.wait; stamped = h.stamped; masked = h.masked ∙ sym (bit_other mask p q d) }
+other_standing s n mask p q x d h = record { own = h.own; partner = h.partner; version = h.version; wait = h.wait; checked = h.checked; stamped = h.stamped; masked = h.masked ∙ sym (bit_other mask p q d) }
 
 -- one more of the links is connected
 put_at : (P : ℕ → Partner → Type 0) (xs : List Partner) (i : ℕ) (p : Partner) → i < length xs → P i p → ((q : ℕ) → q ≢ i → P q (partner_at xs q)) → (q : ℕ) → P q (partner_at (set xs i p) q)
@@ -214,7 +216,7 @@ cold_room : (s : ScenarioPart) (q : ℕ) → HaveTurnRoom (cold_partner s q)
 cold_room s q = by_four (λ c. HasTurnRoom (channel_at (cold_partner s q).channels c)) (fresh_end s.part q 0) (fresh_end s.part q 1) (fresh_end s.part q 2) (fresh_end s.part q 3)
 
 cold_standing_is : (s : ScenarioPart) (q : ℕ) → IsStanding s (opening_stamp s.links) 0 q (cold_standing s q)
-cold_standing_is s q = record { own = refl; partner = refl; version = refl; wait = refl; stamped = refl; masked = ap (λ (n : ℕ). nat_eq n 1) (sym (bit_at-zero q)) }
+cold_standing_is s q = record { own = refl; partner = refl; version = refl; wait = refl; checked = refl; stamped = refl; masked = ap (λ (n : ℕ). nat_eq n 1) (sym (bit_at-zero q)) }
 
 links_open : (ls : List Link) (l : Link) (more : List Link) → ls ≡ l ∷ more → opening_stamp ls ≡ 1
 links_open ls l more h = ap opening_stamp h

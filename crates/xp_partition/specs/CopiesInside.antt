@@ -5,6 +5,7 @@ use Rattle.xp_partition.specs.declared.copies.CopyCounts.TheInside.{Inside}
 abbrev pub copies_seen : Inside → Copies
 copies_seen x = record {
   pages = x.pages;
+  beats = x.beats;
   records = x.records;
   args = x.args;
   counters = x.counters;

@@ -20,7 +20,7 @@ state_of x = record {
   boot = boot_seen x.life x.boot.boot;
   stamp = x.stamp;
   clock = x.clock;
-  beats = record { mask = x.mask };
+  beats = x.beat;
   script = x.script;
   peers = map peer_seen x.partners.list;
 }
@@ -47,7 +47,7 @@ pub record IsKept (x : Keeping) : Type 0 where
   pub lawful : IsLawfulPart x.part
   pub count : length x.partners.list ≡ x.part.count
   pub standing : (q : ℕ) → q < x.part.count
-      → IsStanding x.part x.stamp x.mask q (partner_at x.partners.list q).standing
+      → IsStanding x.part x.stamp x.beat.mask q (partner_at x.partners.list q).standing
   pub own : x.boot.own ≡ x.part.part
   pub partitions : x.boot.count ≡ x.part.count
   pub boot : x.life ≡ Booting → IsBooted x.part x.boot x.partners

@@ -5,7 +5,7 @@ use Rattle.xp_base.specs.Windows.{window_of}
 use Rattle.xp_script.specs.declared.part.Link.{Link}
 use Rattle.xp_script.specs.declared.part.ScenarioPart.{ScenarioPart}
 use Rattle.xp_protocol.specs.declared.contact.Look.TheVariants.{Unseen}
-use Rattle.xp_protocol.specs.State.{Size, Contact, first_contact, first_met, each, base_engage, first_peers, opened_peers, opened_new, opening_stamp, link_mask, version_of, warm_engage}
+use Rattle.xp_protocol.specs.State.{Size, Contact, new_watch, first_contact, first_met, each, base_engage, first_peers, opened_peers, opened_new, opening_stamp, link_mask, version_of, warm_engage}
 use Rattle.xp_protocol.specs.Peering.{is_flagged}
 use Rattle.xp_protocol.specs.Records.{Recorded, opened_record}
 use Rattle.xp_protocol.specs.Logged.{is_at, opened_records}
@@ -18,7 +18,7 @@ use Rattle.xp_partition.specs.Partners.{Partners, partner_at, with_partner, AreR
 abbrev pub cold_standing : ScenarioPart → ℕ → Standing
 cold_standing s q =
     new_standing s.part q (version_of s s.part) (opening_stamp s.links) (base_engage s.links)
-    (window_of s.count)
+    (window_of s.count) s.check
 
 abbrev pub cold_partner : ScenarioPart → ℕ → Partner
 cold_partner s q = of_standing (cold_standing s q)
@@ -30,6 +30,7 @@ pub record IsWarm (new : Bool) (x : Partner) : Type 0 where
   pub seen : x.standing.flags_seen ≡ 0
   pub both_new : x.standing.both_new ≡ new
   pub engage : x.standing.engage ≡ warm_engage
+  pub watch : x.standing.watch ≡ new_watch 0
   pub ends : each (λ c e. first_met new e) 0 (peer_seen x).links ≡ (peer_seen x).links
 
 abbrev pub IsColdOrWarm : ScenarioPart → ℕ → Option Contact → Partner → Type 0
@@ -42,6 +43,7 @@ pub record IsStanding (s : ScenarioPart) (stamp mask q : ℕ) (x : Standing) : T
   pub partner : x.partner ≡ q
   pub version : x.version ≡ version_of s s.part
   pub wait : x.wait ≡ 2 * window_of s.count
+  pub checked : x.check ≡ s.check
   pub stamped : x.stamp ≡ stamp
   pub masked : x.masked ≡ is_flagged mask q
 

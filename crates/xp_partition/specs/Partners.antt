@@ -15,7 +15,7 @@ pub record Partners : Type 0 where
 
 -- a partner of which nothing is known
 abbrev pub no_partner : Partner
-no_partner = of_standing (new_standing 0 0 0 0 (cold_engage Old) 0)
+no_partner = of_standing (new_standing 0 0 0 0 (cold_engage Old) 0 0)
 
 abbrev pub partner_at : List Partner → ℕ → Partner
 partner_at xs q = slice_index_or xs q no_partner

@@ -10,6 +10,7 @@ use xp_base::step::CopyKind;
 #[derive(Drop)]
 pub struct CopyCounts {
     pages: u64,
+    beats: u64,
     records: u64,
     args: u64,
     counters: u64,
@@ -33,6 +34,7 @@ impl CopyCounts {
     {
         CopyCounts {
             pages: 0,
+            beats: 0,
             records: 0,
             args: 0,
             counters: 0,
@@ -47,12 +49,13 @@ impl CopyCounts {
     {
         match kind {
             CopyKind::Page => self.pages,
+            CopyKind::Beat => self.beats,
             CopyKind::Record => self.records,
             CopyKind::Args => self.args,
             CopyKind::Counters => self.counters,
             CopyKind::Get => self.get,
             CopyKind::Entries => self.entries,
-            CopyKind::Beat | CopyKind::Buffer => 0,
+            CopyKind::Buffer => 0,
         }
     }
 
@@ -63,12 +66,13 @@ impl CopyCounts {
     {
         match kind {
             CopyKind::Page => self.pages += 1,
+            CopyKind::Beat => self.beats += 1,
             CopyKind::Record => self.records += 1,
             CopyKind::Args => self.args += 1,
             CopyKind::Counters => self.counters += 1,
             CopyKind::Get => self.get += 1,
             CopyKind::Entries => self.entries += 1,
-            CopyKind::Beat | CopyKind::Buffer => {}
+            CopyKind::Buffer => {}
         }
     }
 }

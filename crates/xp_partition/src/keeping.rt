@@ -14,12 +14,13 @@ use crate::clock::Clock;
 use crate::life::Life;
 use crate::partners::Partners;
 use crate::progress::Progress;
+use xp_beat::beat::Beat;
 use xp_discover::boot::Boot;
 use xp_script::part::ScenarioPart;
 
 /// What a partition keeps beside its visits: its part of the scenario, whether it stopped as
-/// planned, its boot and the stamp of it, the heartbeat mask that was stored last, what it counts
-/// over all boots, how far the script of this boot has come, and its partners.
+/// planned, its boot and the stamp of it, its heartbeat as it was stored last, what it counts over
+/// all boots, how far the script of this boot has come, and its partners.
 #[derive(Drop)]
 pub struct Keeping {
     pub part: ScenarioPart,
@@ -28,7 +29,7 @@ pub struct Keeping {
     pub boot: Boot,
     /// The stamp of the boot, once the boot is over, and 0 before.
     pub stamp: u32,
-    pub mask: u64,
+    pub beat: Beat,
     pub clock: Clock,
     pub script: Progress,
     pub partners: Partners,

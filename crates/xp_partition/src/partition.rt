@@ -19,6 +19,7 @@ use crate::life::Life;
 use crate::partners::Partners;
 use crate::progress::Progress;
 use std::alloc::{AllocError, Global};
+use xp_beat::beat::Beat;
 use xp_discover::boot::Boot;
 use xp_planner::planner::Planner;
 use xp_protocol::rule::Rule;
@@ -73,7 +74,7 @@ impl Partition {
                 life,
                 boot: Boot::new(own, count),
                 stamp,
-                mask,
+                beat: Beat::masked(mask),
                 clock: Clock::new(),
                 script: Progress::new(),
                 partners,

@@ -12,9 +12,9 @@ use Rattle.xp_base.specs.declared.step.CopyKind.{CopyKind}
 use Rattle.xp_base.specs.declared.step.CopyKind.TheVariants.{Counters, Get, Entries, Page, Beat, Record as RecordCopies, Args, Buffer}
 use Rattle.xp_base.specs.declared.step.CopyMark.{CopyMark}
 use Rattle.xp_protocol.specs.declared.rule.PeerRule.{PeerRule}
-use Rattle.xp_protocol.specs.declared.rule.PeerRule.TheVariants.{AskActivation, TakeFlags, CloseArea, ZeroMagic, ClearOldBit, Prepare, OpenArea, SetEngagementBit, ReadRecord, StoreEcho, StoreSecond, ClearEngagementBit, LookAtPage, ClearDeactivationBit, TellPartner}
+use Rattle.xp_protocol.specs.declared.rule.PeerRule.TheVariants.{AskActivation, TakeFlags, CloseArea, ZeroMagic, ClearOldBit, Prepare, OpenArea, SetEngagementBit, ReadRecord, StoreEcho, StoreSecond, ClearEngagementBit, LookAtPage, CheckBeat, ClearDeactivationBit, TellPartner}
 use Rattle.xp_protocol.specs.Effects.{Effect, Note, first_reason}
-use Rattle.xp_protocol.specs.State.{End, Peer, PeerGoing, Contact, Engage, Reading, each}
+use Rattle.xp_protocol.specs.State.{End, Peer, PeerGoing, Contact, Engage, Reading, Watch, no_numbers, each}
 use Rattle.xp_protocol.specs.Linking.{link_joined, link_down}
 use Rattle.xp_protocol.specs.Peering.{with_reason, is_ready, judged, is_absent, look_reason, both_new_by, try_contact, magic_read, place_read, last_read, record_read, is_magic, is_wrong, has_shown, area_left, area_left_for}
 use Rattle.xp_channel.specs.Channel.{Channel}
@@ -57,6 +57,7 @@ lifted x p = record (peer_seen x) {
   flags_seen = p.flags_seen;
   engage = p.engage;
   contact = p.contact;
+  watch = p.watch;
   links = joined_links p.both_new x.standing.contact p.contact (peer_seen x).links;
 }
 
@@ -88,9 +89,17 @@ same_alike x n e r = record {
   notes = refl;
 }
 
-try_alike : (x : Partner) (n : PeerGoing) (e : Engage) → Alike x (try_contact x.standing.stamp (record (alone_with n x.standing) { engage = e })) (try_contact x.standing.stamp (record (peer_seen x) { engage = e }))
-try_alike x n e = by x.standing.contact e.second e.shown where
-  by : (c : Option Contact) (s h : Bool) → Alike (record x { standing = record x.standing { contact = c } }) (try_contact x.standing.stamp (record (alone_with n (record x.standing { contact = c })) { engage = record e { second = s; shown = h } })) (try_contact x.standing.stamp (record (peer_seen (record x { standing = record x.standing { contact = c } })) { engage = record e { second = s; shown = h } }))
+-- where the watch alone changes
+watch_alike : (x : Partner) (n : PeerGoing) (v : Watch) (r : Option Reason) → Alike x (just_peer r (record (alone_with n x.standing) { watch = v })) (just_peer r (record (peer_seen x) { watch = v }))
+watch_alike x n v r = record {
+  local = ap (λ (links : List End). record (peer_seen x) { watch = v; links = links }) (sym (joined_same x.standing.both_new x.standing.contact (peer_seen x).links));
+  reason = refl;
+  notes = refl;
+}
+
+try_alike : (turn : ℕ) (x : Partner) (n : PeerGoing) (e : Engage) → Alike x (try_contact turn x.standing.stamp (record (alone_with n x.standing) { engage = e })) (try_contact turn x.standing.stamp (record (peer_seen x) { engage = e }))
+try_alike turn x n e = by x.standing.contact e.second e.shown where
+  by : (c : Option Contact) (s h : Bool) → Alike (record x { standing = record x.standing { contact = c } }) (try_contact turn x.standing.stamp (record (alone_with n (record x.standing { contact = c })) { engage = record e { second = s; shown = h } })) (try_contact turn x.standing.stamp (record (peer_seen (record x { standing = record x.standing { contact = c } })) { engage = record e { second = s; shown = h } }))
   by None true true = record { local = refl; reason = refl; notes = refl }
   by None true false = record { local = refl; reason = refl; notes = refl }
   by None false h = record { local = refl; reason = refl; notes = refl }
@@ -103,9 +112,9 @@ magic_alike x n w =
     alike_if x (nat_eq w 0) _ _ _ _ (same_alike x n _ _)
     (alike_if x (is_magic w) _ _ _ _ (same_alike x n _ _) (same_alike x n x.standing.engage _))
 
-last_alike : (x : Partner) (n : PeerGoing) (r : Reading) → Alike x (last_read x.standing.stamp (alone_with n x.standing) r) (last_read x.standing.stamp (peer_seen x) r)
-last_alike x n r =
-    alike_if x (has_shown x.standing.stamp x.standing.engage r) _ _ _ _ (try_alike x n (record x.standing.engage { shown = true; reading = None })) (same_alike x n _ _)
+last_alike : (turn : ℕ) (x : Partner) (n : PeerGoing) (r : Reading) → Alike x (last_read turn x.standing.stamp (alone_with n x.standing) r) (last_read turn x.standing.stamp (peer_seen x) r)
+last_alike turn x n r =
+    alike_if x (has_shown x.standing.stamp x.standing.engage r) _ _ _ _ (try_alike turn x n (record x.standing.engage { shown = true; reading = None })) (same_alike x n _ _)
 
 place_alike : (x : Partner) (n : PeerGoing) (r : Reading) (w : ℕ) → Alike x (place_read x.standing.own (alone_with n x.standing) r w) (place_read x.standing.own (peer_seen x) r w)
 place_alike x n r w = alike_if x (is_wrong x.standing.own r.done w) _ _ _ _ (same_alike x n _ _) (same_alike x n _ _)
@@ -115,24 +124,25 @@ read_alike turn x n None w = magic_alike x n w
 read_alike turn x n (Some r) w =
     alike_if x (nat_eq r.done 1) _ _ _ _ (same_alike x n _ _)
     (alike_if x (nat_eq r.done 2) _ _ _ _ (same_alike x n _ _)
-    (alike_if x (nat_eq r.done 7) _ _ _ _ (last_alike x n r) (place_alike x n r w)))
+    (alike_if x (nat_eq r.done 7) _ _ _ _ (last_alike turn x n r) (place_alike x n r w)))
 
 alone_alike : (turn w : ℕ) (m : PeerRule) (x : Partner) → is_alone m ≡ true → Alike x (effect_on turn x.standing m (Word w)) (peer_effect_on turn None m (Word w) x)
-alone_alike turn w AskActivation x h = same_alike x (record { pages = 0; records = 0 }) _ _
+alone_alike turn w AskActivation x h = same_alike x no_numbers _ _
 alone_alike turn w TakeFlags x h = absurd (cc)
 alone_alike turn w CloseArea x h = absurd (cc)
-alone_alike turn w ZeroMagic x h = same_alike x (record { pages = 0; records = 0 }) _ _
-alone_alike turn w ClearOldBit x h = same_alike x (record { pages = 0; records = 0 }) _ _
-alone_alike turn w (Prepare y) x h = same_alike x (record { pages = 0; records = 0 }) _ _
-alone_alike turn w OpenArea x h = same_alike x (record { pages = 0; records = 0 }) _ _
-alone_alike turn w SetEngagementBit x h = same_alike x (record { pages = 0; records = 0 }) _ _
-alone_alike turn w ReadRecord x h = read_alike turn x (record { pages = 0; records = 0 }) x.standing.engage.reading w
-alone_alike turn w StoreEcho x h = same_alike x (record { pages = 0; records = 0 }) _ _
-alone_alike turn w StoreSecond x h = try_alike x (record { pages = 0; records = 0 }) (record x.standing.engage { second = true })
-alone_alike turn w ClearEngagementBit x h = same_alike x (record { pages = 0; records = 0 }) _ _
+alone_alike turn w ZeroMagic x h = same_alike x no_numbers _ _
+alone_alike turn w ClearOldBit x h = same_alike x no_numbers _ _
+alone_alike turn w (Prepare y) x h = same_alike x no_numbers _ _
+alone_alike turn w OpenArea x h = same_alike x no_numbers _ _
+alone_alike turn w SetEngagementBit x h = same_alike x no_numbers _ _
+alone_alike turn w ReadRecord x h = read_alike turn x no_numbers x.standing.engage.reading w
+alone_alike turn w StoreEcho x h = same_alike x no_numbers _ _
+alone_alike turn w StoreSecond x h = try_alike turn x no_numbers (record x.standing.engage { second = true })
+alone_alike turn w ClearEngagementBit x h = same_alike x no_numbers _ _
 alone_alike turn w LookAtPage x h = absurd (cc)
-alone_alike turn w ClearDeactivationBit x h = same_alike x (record { pages = 0; records = 0 }) _ _
-alone_alike turn w TellPartner x h = same_alike x (record { pages = 0; records = 0 }) _ _
+alone_alike turn w CheckBeat x h = watch_alike x no_numbers _ _
+alone_alike turn w ClearDeactivationBit x h = same_alike x no_numbers _ _
+alone_alike turn w TellPartner x h = same_alike x no_numbers _ _
 
 -- a reason goes to the engagement
 abbrev pub giving : Option Reason → Partner → Partner
@@ -308,8 +318,14 @@ pub failed_record : (turn : ℕ) (m : PeerRule) (mark : CopyMark) (x : Partner) 
 failed_record turn m mark x k l = subst (λ (kind : CopyKind). record x { standing = faulted (Some (error_of mark kind)) (stepped 0 x.standing ReadRecord Failed) } ≡ kind_made turn m mark kind x) (sym k)
     (four_of (λ (xs : List Channel). record x { standing = faulted (Some (error_of mark RecordCopies)) (stepped 0 x.standing ReadRecord Failed); channels = xs } ≡ kind_made turn m mark RecordCopies (record x { channels = xs })) (λ a b c d. refl) x.channels l)
 
+pub failed_beat : (turn : ℕ) (m : PeerRule) (mark : CopyMark) (x : Partner) → mark.kind ≡ Beat → length x.channels ≡ 4 →
+    record x { standing = faulted (Some (CopyError mark.kind mark.number)) (stepped turn x.standing CheckBeat Failed) } ≡ peer_made turn (Some mark) m Failed x
+failed_beat turn m mark x k l = subst (λ (kind : CopyKind). record x { standing = faulted (Some (error_of mark kind)) (stepped turn x.standing CheckBeat Failed) } ≡ kind_made turn m mark kind x) (sym k)
+    (four_of (λ (xs : List Channel). record x { standing = faulted (Some (error_of mark Beat)) (stepped turn x.standing CheckBeat Failed); channels = xs } ≡ kind_made turn m mark Beat (record x { channels = xs })) (λ a b c d. refl) x.channels l)
+
 abbrev is_other : CopyKind → Bool
 is_other Page = false
+is_other Beat = false
 is_other RecordCopies = false
 is_other kind = true
 
@@ -321,7 +337,7 @@ other_kind turn m mark x kind o l = four_of (λ (xs : List Channel). record x { 
   by a b c d Get o = refl
   by a b c d Entries o = refl
   by a b c d Page o = absurd (cc)
-  by a b c d Beat o = refl
+  by a b c d Beat o = absurd (cc)
   by a b c d RecordCopies o = absurd (cc)
   by a b c d Args o = refl
   by a b c d Buffer o = refl
@@ -354,24 +370,24 @@ met_none x h = by x.standing.contact h where
   by None h = refl
   by (Some m) h = absurd (cc)
 
-pub ruleset failing = (failed_none, failed_page, dropped_page, failed_record, failed_other, own_rooms)
+pub ruleset failing = (failed_none, failed_page, dropped_page, failed_record, failed_beat, failed_other, own_rooms)
 
 pub ruleset meeting = (met_known, met_none, own_rooms, rooms_put)
 
 -- a copy of another kind
-other_of : (kind : CopyKind) → (kind ≡ Page → ⊥) → (kind ≡ RecordCopies → ⊥) → is_other kind ≡ true
-other_of Counters p r = refl
-other_of Get p r = refl
-other_of Entries p r = refl
-other_of Page p r = absurd (p refl)
-other_of Beat p r = refl
-other_of RecordCopies p r = absurd (r refl)
-other_of Args p r = refl
-other_of Buffer p r = refl
+other_of : (kind : CopyKind) → (kind ≡ Page → ⊥) → (kind ≡ RecordCopies → ⊥) → (kind ≡ Beat → ⊥) → is_other kind ≡ true
+other_of Counters p r b = refl
+other_of Get p r b = refl
+other_of Entries p r b = refl
+other_of Page p r b = absurd (p refl)
+other_of Beat p r b = absurd (b refl)
+other_of RecordCopies p r b = absurd (r refl)
+other_of Args p r b = refl
+other_of Buffer p r b = refl
 
-pub failed_rest : (turn : ℕ) (m : PeerRule) (mark : CopyMark) (x : Partner) → (mark.kind ≡ Page → ⊥) → (mark.kind ≡ RecordCopies → ⊥) → length x.channels ≡ 4 →
+pub failed_rest : (turn : ℕ) (m : PeerRule) (mark : CopyMark) (x : Partner) → (mark.kind ≡ Page → ⊥) → (mark.kind ≡ RecordCopies → ⊥) → (mark.kind ≡ Beat → ⊥) → length x.channels ≡ 4 →
     record x { standing = faulted (Some (CopyError mark.kind mark.number)) x.standing } ≡ peer_made turn (Some mark) m Failed x
-failed_rest turn m mark x p r l = other_kind turn m mark x mark.kind (other_of mark.kind p r) l
+failed_rest turn m mark x p r b l = other_kind turn m mark x mark.kind (other_of mark.kind p r b) l
 
 -- how the sessions of a contact tell of it
 pub sessions_some : (c : Option Contact) → is_some (sessions_of c) ≡ is_some c

@@ -22,9 +22,9 @@ pub wanted_made : (x : Partner) → length x.channels ≡ 4 → record x { stand
 wanted_made x h = four_of (λ (xs : List Channel). record x { standing = wanted_as true x.standing; channels = xs } ≡ known_as (wanted_again (peer_seen (record x { channels = xs }))) (λ c. []) (record x { channels = xs })) (λ a b c d. refl) x.channels h
 
 -- the standing of another partner, all else being as it was
-lifted_known : (x : Partner) (p : Peer) → length x.channels ≡ 4 → p ≡ record (peer_seen x) { wanted = p.wanted; look = p.look; both_new = p.both_new; flags_seen = p.flags_seen; engage = p.engage; contact = p.contact } → record x { standing = seen_in x.standing p } ≡ after_effect (same_peer p) x
+lifted_known : (x : Partner) (p : Peer) → length x.channels ≡ 4 → p ≡ record (peer_seen x) { wanted = p.wanted; look = p.look; both_new = p.both_new; flags_seen = p.flags_seen; engage = p.engage; contact = p.contact; watch = p.watch } → record x { standing = seen_in x.standing p } ≡ after_effect (same_peer p) x
 lifted_known x p h e =
-    four_of (λ (xs : List Channel). record x { standing = seen_in x.standing p; channels = xs } ≡ known_as (record (peer_seen (record x { channels = xs })) { wanted = p.wanted; look = p.look; both_new = p.both_new; flags_seen = p.flags_seen; engage = p.engage; contact = p.contact }) (λ c. []) (record x { channels = xs })) (λ a b c d. refl) x.channels h
+    four_of (λ (xs : List Channel). record x { standing = seen_in x.standing p; channels = xs } ≡ known_as (record (peer_seen (record x { channels = xs })) { wanted = p.wanted; look = p.look; both_new = p.both_new; flags_seen = p.flags_seen; engage = p.engage; contact = p.contact; watch = p.watch }) (λ c. []) (record x { channels = xs })) (λ a b c d. refl) x.channels h
     ∙ ap (λ (q : Peer). known_as q (λ c. []) x) (sym e)
     ∙ ap (λ (q : Peer). known_as q (λ c. []) x) (sym (with_none p))
 

@@ -4,7 +4,7 @@ use Rattle.std.proofs.Common.{◌≡◌, ℕ, true, refl, ap, ◌∙◌}
 use Rattle.xp_base.specs.declared.step.Wanted.{Wanted}
 use Rattle.xp_protocol.specs.declared.rule.LinkRule.{LinkRule}
 use Rattle.xp_protocol.specs.declared.rule.PeerRule.{PeerRule}
-use Rattle.xp_protocol.specs.declared.rule.PeerRule.TheVariants.{AskActivation, TakeFlags, CloseArea, ZeroMagic, ClearOldBit, Prepare, OpenArea, SetEngagementBit, ReadRecord, StoreEcho, StoreSecond, ClearEngagementBit, LookAtPage, ClearDeactivationBit, TellPartner}
+use Rattle.xp_protocol.specs.declared.rule.PeerRule.TheVariants.{AskActivation, TakeFlags, CloseArea, ZeroMagic, ClearOldBit, Prepare, OpenArea, SetEngagementBit, ReadRecord, StoreEcho, StoreSecond, ClearEngagementBit, LookAtPage, CheckBeat, ClearDeactivationBit, TellPartner}
 use Rattle.xp_protocol.specs.Linking.{link_row}
 use Rattle.xp_protocol.specs.Peering.{peer_row}
 use Rattle.xp_protocol.specs.Wanting.{wanted_at}
@@ -31,6 +31,7 @@ same_step x StoreEcho h = refl
 same_step x StoreSecond h = refl
 same_step x ClearEngagementBit h = refl
 same_step x LookAtPage h = absurd (cc)
+same_step x CheckBeat h = refl
 same_step x ClearDeactivationBit h = refl
 same_step x TellPartner h = refl
 

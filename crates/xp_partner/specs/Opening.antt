@@ -28,4 +28,5 @@ warmed_by s c z x = record x {
 abbrev pub warmed : ℕ → ℕ → ℕ → Size → Partner → Partner
 warmed theirs window c z x =
     warmed_by
-    (warm_standing x.standing.own x.standing.partner x.standing.version theirs window) c z x
+    (warm_standing x.standing.own x.standing.partner x.standing.version theirs window
+    x.standing.check) c z x

@@ -4,7 +4,7 @@
 -- and the room that they have.
 use Rattle.std.specs.Prelude.{ℕ, ◌+◌, List, [], ◌∷◌, map, slice_set, slice_index_or}
 use Rattle.xp_protocol.specs.Effects.{Effect, Note}
-use Rattle.xp_protocol.specs.State.{End, Peer, PeerGoing, Going}
+use Rattle.xp_protocol.specs.State.{End, Peer, PeerGoing, Going, no_numbers}
 use Rattle.xp_protocol.specs.Rules.{no_going}
 use Rattle.xp_engage.specs.Partner.{Partner as Standing}
 use Rattle.xp_channel.specs.Channel.{Channel, new_channel, kept, roomed}
@@ -39,6 +39,7 @@ peer_seen x = record {
   numbers = x.numbers;
   engage = x.standing.engage;
   contact = x.standing.contact;
+  watch = x.standing.watch;
   links = map end_seen x.channels;
   going = x.going;
 }
@@ -56,7 +57,7 @@ abbrev pub of_standing : Standing → Partner
 of_standing x = record {
   standing = x;
   paging = [];
-  numbers = record { pages = 0; records = 0 };
+  numbers = no_numbers;
   going = four_going;
   channels = four_channels x.own x.partner;
 }

@@ -2,6 +2,7 @@
 ghost use Rattle.std.specs.Prelude.{◌≡◌};
 ghost use Rattle.xp_protocol.specs.Rules.{with_going, no_going, going_of, peer_going};
 ghost use Rattle.xp_protocol.specs.Peering.{numbers_after};
+ghost use Rattle.xp_protocol.specs.State.{no_numbers};
 
 use std::marker::Model;
 use xp_base::step::{CopyKind, CopyMark};
@@ -21,11 +22,12 @@ impl Model for ChannelCopies {
     ghost view = { λ x. record { counters = x.counters; entries = x.entries } };
 }
 
-/// The numbers of the copies of a partner's page and of its record that go on.
+/// The numbers of the copies of a partner's page, of its record and of its heartbeat that go on.
 #[derive(Drop)]
 pub struct PartnerCopies {
     pages: u64,
     records: u64,
+    beats: u64,
 }
 
 impl Model for PartnerCopies {
@@ -33,7 +35,7 @@ impl Model for PartnerCopies {
 
     ghost Value = { PeerGoing };
 
-    ghost view = { λ x. record { pages = x.pages; records = x.records } };
+    ghost view = { λ x. record { pages = x.pages; records = x.records; beats = x.beats } };
 }
 
 impl ChannelCopies {
@@ -90,10 +92,10 @@ impl PartnerCopies {
         match kind {
             CopyKind::Page => self.pages,
             CopyKind::Record => self.records,
+            CopyKind::Beat => self.beats,
             CopyKind::Counters
             | CopyKind::Get
             | CopyKind::Entries
-            | CopyKind::Beat
             | CopyKind::Args
             | CopyKind::Buffer => 0,
         }
@@ -101,11 +103,12 @@ impl PartnerCopies {
 
     /// No copy was begun.
     pub fn new() -> PartnerCopies
-        ensures { result ≡ record { pages = 0; records = 0 } }
+        ensures { result ≡ no_numbers }
     {
         PartnerCopies {
             pages: 0,
             records: 0,
+            beats: 0,
         }
     }
 
@@ -116,10 +119,10 @@ impl PartnerCopies {
         match mark.kind {
             CopyKind::Page => self.pages = mark.number,
             CopyKind::Record => self.records = mark.number,
+            CopyKind::Beat => self.beats = mark.number,
             CopyKind::Counters
             | CopyKind::Get
             | CopyKind::Entries
-            | CopyKind::Beat
             | CopyKind::Args
             | CopyKind::Buffer => {}
         }

@@ -76,7 +76,8 @@ fn new_ends(alloc: Global, own: PartId, partner: PartId) -> [ChannelEnd; 4]
 impl Partner {
     /// A partner in a boot of this stamp: the own memory for it is as a former boot left it.
     /// `version` is the word of the own version, and `window` the scenario's: no engagement bit is
-    /// set within two windows after it was cleared.
+    /// set within two windows after it was cleared. `check` turns lie between two checks of the
+    /// partner's heartbeat, 0 for no checks.
     #[tactic(auto, using(crate::proofs::Channels::four_named))]
     pub fn new(
         alloc: Global,
@@ -85,13 +86,14 @@ impl Partner {
         version: u64,
         stamp: u32,
         window: u64,
+        check: u64,
     ) -> Partner
         requires { 2 * window < 2 ^ 64 }
         ensures { result ≡
-            of_standing (new_standing own partner version stamp booted_engage window) }
+            of_standing (new_standing own partner version stamp booted_engage window check) }
     {
         Partner {
-            standing: PartnerEnd::new(own, partner, version, stamp, window),
+            standing: PartnerEnd::new(own, partner, version, stamp, window, check),
             page: PageCopy::new(),
             numbers: PartnerCopies::new(),
             going: no_copies(),
@@ -101,13 +103,20 @@ impl Partner {
 
     /// A partner that isn't in contact, of a partition that opens booted.
     #[tactic(auto, using(crate::proofs::Channels::four_named))]
-    pub fn off(alloc: Global, own: PartId, partner: PartId, version: u64, window: u64) -> Partner
+    pub fn off(
+        alloc: Global,
+        own: PartId,
+        partner: PartId,
+        version: u64,
+        window: u64,
+        check: u64,
+    ) -> Partner
         requires { 2 * window < 2 ^ 64 }
         ensures { result ≡
-            of_standing (new_standing own partner version 1 (cold_engage Off) window) }
+            of_standing (new_standing own partner version 1 (cold_engage Off) window check) }
     {
         Partner {
-            standing: PartnerEnd::off(own, partner, version, window),
+            standing: PartnerEnd::off(own, partner, version, window, check),
             page: PageCopy::new(),
             numbers: PartnerCopies::new(),
             going: no_copies(),

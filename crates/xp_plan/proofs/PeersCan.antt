@@ -1,7 +1,7 @@
 -- The step for a partner that comes next is permitted, and belongs to the life of a booted partition,
 -- or to a boot.
-use Rattle.std.proofs.Common.{◌≡◌, ℕ, zero, suc, ◌+◌, ◌*◌, ◌/◌, ◌%◌, ◌<◌, Bool, true, false, ◌&&◌, refl, subst, arith, ◌⊎◌, inl, inr, Option, Some, None, length}
-use Rattle.std.specs.Prelude.{if◌then◌else◌, ◌||◌, not, is_some, nat_lt, nat_eq}
+use Rattle.std.proofs.Common.{◌≡◌, ℕ, zero, suc, ◌+◌, ◌*◌, ◌/◌, ◌%◌, ◌<◌, ◌≤◌, Bool, true, false, ◌&&◌, refl, ◌∷◌, subst, arith, ◌⊎◌, inl, inr, Option, Some, None, length, List, []}
+use Rattle.std.specs.Prelude.{if◌then◌else◌, ◌||◌, not, is_some, nat_lt, nat_le, nat_eq}
 use Rattle.std.specs.Int.{bit_at}
 use Rattle.std.proofs.lemmas.Bool.{and_parts}
 use Rattle.xp_base.specs.declared.layout.TheConstants.{CHANNELS, ARGS_WORDS, COUNTER_WORDS, RECORD_WORDS}
@@ -10,14 +10,14 @@ use Rattle.xp_protocol.specs.declared.contact.PartnerState.TheVariants.{Inactive
 use Rattle.xp_protocol.specs.declared.rule.AreaWord.{AreaWord}
 use Rattle.xp_protocol.specs.declared.rule.AreaWord.TheVariants.{SessionWord, EchoWord, PlaceWord, ArgsWord, FlagWord, CounterWord}
 use Rattle.xp_protocol.specs.declared.rule.PeerRule.{PeerRule}
-use Rattle.xp_protocol.specs.declared.rule.PeerRule.TheVariants.{AskActivation, CloseArea, SetEngagementBit, ReadRecord, StoreEcho, StoreSecond, ClearEngagementBit, LookAtPage, TellPartner}
+use Rattle.xp_protocol.specs.declared.rule.PeerRule.TheVariants.{AskActivation, CloseArea, SetEngagementBit, ReadRecord, StoreEcho, StoreSecond, ClearEngagementBit, LookAtPage, CheckBeat, TellPartner}
 use Rattle.xp_protocol.specs.State.{Engage, Peer, Area, Old, Off, Ready, Leaving, Up}
-use Rattle.xp_protocol.specs.Peering.{Here, HasWaited, IsAreaWord, is_off, is_ready, is_good, copies_go_on, peer_can}
+use Rattle.xp_protocol.specs.Peering.{Here, HasWaited, IsCheckDue, IsAreaWord, is_off, is_ready, is_good, copies_go_on, peer_can}
 use Rattle.xp_protocol.specs.Rules.{peer_life}
 use Rattle.xp_plan.specs.EndSteps.{step_if, or_else}
-use Rattle.xp_plan.specs.PeerSteps.{look_at, unset_from, field_of, place_word, args_word, counter_word, words_missing, word_missing, is_open_to, has_waited, engage_by, engage_at, echo_step, is_backing_off, answer_at, is_activating, may_read, record_at, leave_bit, leave_by, leave_at}
+use Rattle.xp_plan.specs.PeerSteps.{look_at, unset_from, field_of, place_word, args_word, counter_word, words_missing, word_missing, is_open_to, has_waited, engage_by, engage_at, echo_step, is_backing_off, answer_at, is_activating, may_read, record_at, is_active, may_check, is_due, check_at, leave_bit, leave_by, leave_at}
 use Rattle.xp_plan.specs.Sound.{IsSoundPeer}
-use Rattle.xp_plan.proofs.Choices.{step_is, choice, first_is, some_is, not_false, there, none_there, le_is}
+use Rattle.xp_plan.proofs.Choices.{step_is, choice, first_is, some_is, not_false, there, none_there, lt_is, le_is}
 
 -- a step of a booted partition
 abbrev pub MayUp : Here → Peer → PeerRule → Type 0
@@ -157,6 +157,26 @@ record_can x used p m h is =
     let e = and_parts (not (is_some p.contact)) (not p.engage.back_off) d.1 in
     let f = open_is p.engage b.0 in
     subst (λ (r : PeerRule). MayUp x p r) y.1 (refl, (f.0, f.1, c.0, none_there p.contact (not_false (is_some p.contact) e.0), activating_is p.engage.state d.0, h.words))
+
+-- checking the heartbeat
+active_is : (state : PartnerState) → is_active state ≡ true → state ≡ Active
+active_is Inactive e = absurd (cc)
+active_is Requested e = absurd (cc)
+active_is Activating e = absurd (cc)
+active_is Active e = refl
+active_is Deactivating e = absurd (cc)
+
+due_is : (x : Here) (since : ℕ) (words : List ℕ) (b : Bool) → (nat_lt 0 (length words) || (b && is_due x since)) ≡ true → words ≡ [] → since + x.check ≤ x.turn
+due_is x since [] b e none = le_is (since + x.check) x.turn (and_parts b (is_due x since) e).1
+due_is x since (w ∷ words) b e none = absurd (cc)
+
+pub check_can : (x : Here) (used : ℕ) (p : Peer) (m : PeerRule) → IsSoundPeer p → check_at x used p ≡ Some m → MayUp x p m
+check_can x used p m h is =
+    let y = step_is (may_check x p && (nat_lt 0 (length p.watch.words) || (nat_eq used 0 && is_due x p.watch.since))) CheckBeat m is in
+    let a = and_parts (may_check x p) (nat_lt 0 (length p.watch.words) || (nat_eq used 0 && is_due x p.watch.since)) y.0 in
+    let b = and_parts (is_open_to p.engage) (is_active p.engage.state && nat_lt 0 x.check) a.0 in
+    let c = and_parts (is_active p.engage.state) (nat_lt 0 x.check) b.1 in
+    subst (λ (r : PeerRule). MayUp x p r) y.1 (refl, (active_is p.engage.state c.0, lt_is 0 x.check c.1, h.beat, λ none. due_is x p.watch.since p.watch.words (nat_eq used 0) a.1 none))
 
 -- leaving
 pub leave_can : (x : Here) (p : Peer) (m : PeerRule) → leave_at p ≡ Some m → MayUp x p m

@@ -17,14 +17,14 @@ use Rattle.xp_protocol.specs.declared.rule.AreaWord.{AreaWord}
 use Rattle.xp_protocol.specs.declared.rule.LinkRule.{LinkRule}
 use Rattle.xp_protocol.specs.declared.rule.PeerRule.{PeerRule}
 use Rattle.xp_protocol.specs.declared.rule.PeerRule.TheVariants.{TakeFlags, ZeroMagic, ClearOldBit, Prepare, ClearDeactivationBit}
-use Rattle.xp_protocol.specs.declared.rule.OwnRule.TheVariants.{ReadEngaged, TakeActivation, TakeDeactivation, ReadStamp, ZeroMask, ZeroOffline, WriteStamp, StoreMask}
+use Rattle.xp_protocol.specs.declared.rule.OwnRule.TheVariants.{ReadEngaged, TakeActivation, TakeDeactivation, ReadStamp, ZeroMask, ZeroOffline, WriteStamp, StoreMask, StoreBeat, StoreOffline}
 use Rattle.xp_protocol.specs.declared.rule.Rule.{Rule}
 use Rattle.xp_protocol.specs.declared.rule.Rule.TheVariants.{Link, Peer as ForPeer, Own}
 use Rattle.xp_protocol.specs.Parts.{IsLawfulPart, IsEndOf}
 use Rattle.xp_protocol.specs.State.{State, Life, Booting, Up, Halted, Engage, Peer, Off, peer_of, peer_at, end_of}
 use Rattle.xp_protocol.specs.Peering.{is_prepared, is_off}
 use Rattle.xp_protocol.specs.Linking.{link_can}
-use Rattle.xp_protocol.specs.Rules.{Can, IsUsable, IsPartner, here_of}
+use Rattle.xp_protocol.specs.Rules.{Can, IsUsable, IsPartner, here_of, offline_asked}
 use Rattle.xp_protocol.specs.Acts.{current, named_end}
 use Rattle.xp_protocol.specs.Parts.{IsLawfulCommand}
 use Rattle.xp_protocol.proofs.Lawful.{lawful_command}
@@ -34,11 +34,11 @@ use Rattle.xp_plan.specs.declared.errand.Errand.{Errand}
 use Rattle.xp_plan.specs.declared.errand.Errand.TheVariants as errands
 use Rattle.xp_plan.specs.EndSteps.{step_if, or_else, send_at, take_at, store_at}
 use Rattle.xp_plan.specs.PeerSteps.{word_missing, open_step, prepare_by, prepare_free, prepare_at, is_open_to, clear_old, for_peer, boot_peers, boot_own, boot_after_read, boot_at}
-use Rattle.xp_plan.specs.Plan.{is_joined, asked, link_rule, link_asked, command_at, command_asked, script_asked, ask_partner, ask_own, ask_by, errands_of, agenda_at, IsErrand, IsVisit, plan_of}
+use Rattle.xp_plan.specs.Plan.{is_joined, asked, link_rule, link_asked, offline_at, command_at, command_asked, script_asked, ask_partner, ask_own, ask_by, errands_of, agenda_at, IsErrand, IsVisit, plan_of}
 use Rattle.xp_plan.specs.Sound.{IsSound, IsSoundEnd}
 use Rattle.xp_plan.proofs.Choices.{step_is, choice, first_is, first_or, no_first, some_is, there, none_there, lt_is, ge_is, eq_is}
 use Rattle.xp_plan.proofs.EndsCan.{send_at_can, take_at_can, store_at_can, counters_at_can, signal_at_can}
-use Rattle.xp_plan.proofs.PeersCan.{MayUp, look_can, off_is, open_is, word_is, engage_can, answer_can, record_can, leave_can}
+use Rattle.xp_plan.proofs.PeersCan.{MayUp, look_can, off_is, open_is, word_is, engage_can, answer_can, record_can, check_can, leave_can}
 
 asked_is : (o : Option Rule) (r : Rule) → asked o ≡ Some (Some r) → o ≡ Some r
 asked_is None r e = absurd (cc)
@@ -76,7 +76,13 @@ module _ (s : ScenarioPart) (st : State) (lawful : IsLawfulPart s) (h : IsSound 
   none_can : (q c : ℕ) (r : Rule) → st.life ≡ Up → IsEndOf s.part s.count q c → link_asked st q c None ≡ Some r → Can s st r
   none_can q c r up is e = peer_link q c None r up is (λ x m i. absurd (cc)) e
 
-  command_can : (used : ℕ) (x : Command) (r : Rule) → st.life ≡ Up → IsLawfulCommand s x → command_at st used x (named_end x) ≡ Some r → Can s st r
+  -- the offline count is stored for the command in progress
+  offline_can : (r : Rule) → st.life ≡ Up → offline_at s st ≡ Some r → Can s st r
+  offline_can r up e =
+      let y = step_is (is_some (offline_asked s st)) (Own StoreOffline) r e in
+      subst (λ (x : Rule). Can s st x) y.1 (up, there (offline_asked s st) y.0)
+
+  command_can : (used : ℕ) (x : Command) (r : Rule) → st.life ≡ Up → IsLawfulCommand s x → command_at s st used x (named_end x) ≡ Some r → Can s st r
   command_can used (commands.Send q c payload wait notify) r up l e = peer_link q c (send_at used (end_of st q c)) r up l.0 (λ x m i. send_at_can used (end_of st q c) m x i) e
   command_can used (commands.Take q c wait) r up l e = peer_link q c (take_at (end_of st q c)) r up l (λ x m i. take_at_can (end_of st q c) m x i) e
   command_can used (commands.Release q c number) r up l e = peer_link q c (store_at (end_of st q c)) r up l (λ x m i. store_at_can (end_of st q c) m i) e
@@ -85,24 +91,24 @@ module _ (s : ScenarioPart) (st : State) (lawful : IsLawfulPart s) (h : IsSound 
   command_can used (commands.Connected q c) r up l e = none_can q c r up l e
   command_can used (commands.Closed q c) r up l e = none_can q c r up l e
   command_can used (commands.Drain q c) r up l e = none_can q c r up l e
-  command_can used (commands.Net frame) r up l e = absurd (cc)
-  command_can used (commands.Frames count) r up l e = absurd (cc)
-  command_can used (commands.Deactivate q) r up l e = absurd (cc)
-  command_can used (commands.Activate q) r up l e = absurd (cc)
-  command_can used commands.Leave r up l e = absurd (cc)
-  command_can used (commands.Idle turns) r up l e = absurd (cc)
-  command_can used commands.Offline r up l e = absurd (cc)
-  command_can used commands.Online r up l e = absurd (cc)
+  command_can used (commands.Net frame) r up l e = offline_can r up e
+  command_can used (commands.Frames count) r up l e = offline_can r up e
+  command_can used (commands.Deactivate q) r up l e = offline_can r up e
+  command_can used (commands.Activate q) r up l e = offline_can r up e
+  command_can used commands.Leave r up l e = offline_can r up e
+  command_can used (commands.Idle turns) r up l e = offline_can r up e
+  command_can used commands.Offline r up l e = offline_can r up e
+  command_can used commands.Online r up l e = offline_can r up e
 
-  current_can : (used : ℕ) (r : Rule) → st.life ≡ Up → command_asked st used (current s st) ≡ Some r → Can s st r
+  current_can : (used : ℕ) (r : Rule) → st.life ≡ Up → command_asked s st used (current s st) ≡ Some r → Can s st r
   current_can used r up e = by (current s st) refl e where
-    by : (o : Option Command) → current s st ≡ o → command_asked st used o ≡ Some r → Can s st r
+    by : (o : Option Command) → current s st ≡ o → command_asked s st used o ≡ Some r → Can s st r
     by None i f = absurd (cc)
     by (Some x) i f = command_can used x r up (lawful_command s st.clock.boots (st.script.begun - 1) x lawful i) f
 
   script_can : (used : ℕ) (r : Rule) → st.life ≡ Up → script_asked s st used ≡ Some r → Can s st r
-  script_can used r up e = by (choice st.script.doing (command_asked st used (current s st)) None r e) where
-    by : ((st.script.doing ≡ true) × (command_asked st used (current s st) ≡ Some r)) ⊎ ((st.script.doing ≡ false) × (None ≡ Some r)) → Can s st r
+  script_can used r up e = by (choice st.script.doing (command_asked s st used (current s st)) None r e) where
+    by : ((st.script.doing ≡ true) × (command_asked s st used (current s st) ≡ Some r)) ⊎ ((st.script.doing ≡ false) × (None ≡ Some r)) → Can s st r
     by (inl y) = current_can used r up y.1
     by (inr y) = absurd (cc)
 
@@ -148,7 +154,9 @@ module _ (s : ScenarioPart) (st : State) (lawful : IsLawfulPart s) (h : IsSound 
   partner_can q used (errands.Counters c) r up is low e = link_asked_can s st q c _ r up is low (λ m i. counters_at_can used (end_of st q c) m (sound q c is.low low) i) e
   partner_can q used errands.Bulk r up is low e = script_can used r up e
   partner_can q used errands.Leave r up is low e = for_can s st q _ r up is (λ m i. leave_can (here_of s st q) (peer_of st q) m i) e
+  partner_can q used errands.Check r up is low e = for_can s st q _ r up is (λ m i. check_can (here_of s st q) used (peer_of st q) m (h.peers q is.low) i) e
   partner_can q used errands.Boot r up is low e = absurd (cc)
+  partner_can q used errands.Beat r up is low e = absurd (cc)
   partner_can q used errands.Mask r up is low e = absurd (cc)
   partner_can q used errands.Activations r up is low e = absurd (cc)
   partner_can q used errands.Deactivations r up is low e = absurd (cc)
@@ -156,6 +164,7 @@ module _ (s : ScenarioPart) (st : State) (lawful : IsLawfulPart s) (h : IsSound 
   partner_can q used errands.Script r up is low e = absurd (cc)
 
   own_can : (used : ℕ) (x : Errand) (r : Rule) → st.life ≡ Up → ask_own s x used st ≡ Some r → Can s st r
+  own_can used errands.Beat r up e = let y = step_is (nat_eq st.beats.offline 0) (Own StoreBeat) r e in subst (λ (z : Rule). Can s st z) y.1 (up, eq_is st.beats.offline 0 y.0)
   own_can used errands.Mask r up e = subst (λ (y : Rule). Can s st y) (step_is _ (Own StoreMask) r e).1 (up, tt)
   own_can used errands.Activations r up e = subst (λ (y : Rule). Can s st y) (some_is (Own TakeActivation) r e) (up, tt)
   own_can used errands.Deactivations r up e = subst (λ (y : Rule). Can s st y) (some_is (Own TakeDeactivation) r e) (up, tt)
@@ -168,6 +177,7 @@ module _ (s : ScenarioPart) (st : State) (lawful : IsLawfulPart s) (h : IsSound 
   own_can used errands.Answer r up e = absurd (cc)
   own_can used errands.Record r up e = absurd (cc)
   own_can used errands.Flags r up e = absurd (cc)
+  own_can used errands.Check r up e = absurd (cc)
   own_can used (errands.Signal c) r up e = absurd (cc)
   own_can used (errands.Counters c) r up e = absurd (cc)
   own_can used errands.Bulk r up e = absurd (cc)
@@ -255,6 +265,7 @@ module _ (s : ScenarioPart) (st : State) (lawful : IsLawfulPart s) (h : IsSound 
   asks_can Up OwnPlace used x r i at low e = own_can used x r i e
   asks_can Up (PartnerPlace q) used x r i at low e = partner_can q used x r i at low e
   asks_can Booting place used errands.Boot r i at low e = boot_can r i e
+  asks_can Booting place used errands.Beat r i at low e = absurd (cc)
   asks_can Booting place used errands.Mask r i at low e = absurd (cc)
   asks_can Booting place used errands.Activations r i at low e = absurd (cc)
   asks_can Booting place used errands.Deactivations r i at low e = absurd (cc)
@@ -265,6 +276,7 @@ module _ (s : ScenarioPart) (st : State) (lawful : IsLawfulPart s) (h : IsSound 
   asks_can Booting place used errands.Answer r i at low e = absurd (cc)
   asks_can Booting place used errands.Record r i at low e = absurd (cc)
   asks_can Booting place used errands.Flags r i at low e = absurd (cc)
+  asks_can Booting place used errands.Check r i at low e = absurd (cc)
   asks_can Booting place used (errands.Signal c) r i at low e = absurd (cc)
   asks_can Booting place used (errands.Counters c) r i at low e = absurd (cc)
   asks_can Booting place used errands.Bulk r i at low e = absurd (cc)
@@ -291,9 +303,9 @@ module _ (s : ScenarioPart) (st : State) (lawful : IsLawfulPart s) (h : IsSound 
 -- the errands of an agenda are of channels that there are
 pub agenda_errands : (x : Agenda) → AllByRecursion IsErrand (errands_of x)
 agenda_errands agendas.Boot = (tt, tt)
-agenda_errands agendas.Own = (tt, (tt, (tt, (tt, (tt, tt)))))
+agenda_errands agendas.Own = (tt, (tt, (tt, (tt, (tt, (tt, tt))))))
 agenda_errands agendas.Apart = (tt, (tt, (tt, (tt, (tt, (tt, (tt, (tt, tt))))))))
-agenda_errands agendas.Joined = (tt, (tt, (omega arith, (omega arith, (omega arith, (omega arith, (omega arith, (omega arith, (omega arith, (omega arith, (tt, (tt, tt))))))))))))
+agenda_errands agendas.Joined = (tt, (tt, (tt, (omega arith, (omega arith, (omega arith, (omega arith, (omega arith, (omega arith, (omega arith, (omega arith, (tt, (tt, tt)))))))))))))
 
 pub given : (s : ScenarioPart) (k : ℕ) (st : State) → AllByRecursion IsErrand ((plan_of s).errands k st)
 given s k st = agenda_errands (agenda_at (place_at s.part k) st)

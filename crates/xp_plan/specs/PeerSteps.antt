@@ -4,14 +4,14 @@ use Rattle.std.specs.Prelude.{ℕ, zero, suc, ◌+◌, ◌*◌, ◌/◌, ◌%◌
 use Rattle.std.specs.Int.{bit_at}
 use Rattle.xp_base.specs.declared.layout.TheConstants.{CHANNELS, ARGS_WORDS, COUNTER_WORDS, RECORD_WORDS}
 use Rattle.xp_protocol.specs.declared.contact.PartnerState.{PartnerState}
-use Rattle.xp_protocol.specs.declared.contact.PartnerState.TheVariants.{Inactive, Requested, Activating}
+use Rattle.xp_protocol.specs.declared.contact.PartnerState.TheVariants.{Inactive, Requested, Activating, Active}
 use Rattle.xp_protocol.specs.declared.rule.AreaWord.{AreaWord}
 use Rattle.xp_protocol.specs.declared.rule.AreaWord.TheVariants.{SessionWord, EchoWord, PlaceWord, ArgsWord, FlagWord, CounterWord}
 use Rattle.xp_protocol.specs.declared.rule.RecordField.{RecordField}
 use Rattle.xp_protocol.specs.declared.rule.RecordField.TheVariants.{ArgsPlace, CountersPlace, FlagPlace, ChannelCount, Spare}
 use Rattle.xp_protocol.specs.declared.rule.PeerRule.{PeerRule}
-use Rattle.xp_protocol.specs.declared.rule.PeerRule.TheVariants.{AskActivation, CloseArea, ZeroMagic, ClearOldBit, Prepare, OpenArea, SetEngagementBit, ReadRecord, StoreEcho, StoreSecond, ClearEngagementBit, LookAtPage, ClearDeactivationBit, TellPartner}
-use Rattle.xp_protocol.specs.declared.rule.OwnRule.TheVariants.{ReadEngaged, ReadStamp, ZeroMask, ZeroOffline, WriteStamp, StoreMask}
+use Rattle.xp_protocol.specs.declared.rule.PeerRule.TheVariants.{AskActivation, CloseArea, ZeroMagic, ClearOldBit, Prepare, OpenArea, SetEngagementBit, ReadRecord, StoreEcho, StoreSecond, ClearEngagementBit, LookAtPage, CheckBeat, ClearDeactivationBit, TellPartner}
+use Rattle.xp_protocol.specs.declared.rule.OwnRule.TheVariants.{ReadEngaged, ReadStamp, ZeroMask, ZeroOffline, WriteStamp, StoreMask, StoreBeat}
 use Rattle.xp_protocol.specs.declared.rule.Rule.{Rule}
 use Rattle.xp_protocol.specs.declared.rule.Rule.TheVariants.{Peer as ForPeer, Own}
 use Rattle.xp_protocol.specs.State.{State, Engage, Peer, Area, Old, Off, Ready, Leaving}
@@ -129,6 +129,23 @@ abbrev pub record_at : ℕ → Peer → Option PeerRule
 record_at used p =
     step_if (may_read p && (is_some p.engage.reading || nat_lt used RECORD_WORDS)) ReadRecord
 
+-- the heartbeat of a partner in contact is checked, where checks are planned. A check that goes on
+-- is made to its end; another one is begun where it is due, by the first step of an errand
+abbrev pub is_active : PartnerState → Bool
+is_active Active = true
+is_active state = false
+
+abbrev pub may_check : Here → Peer → Bool
+may_check x p = is_open_to p.engage && (is_active p.engage.state && nat_lt 0 x.check)
+
+abbrev pub is_due : Here → ℕ → Bool
+is_due x since = nat_le (since + x.check) x.turn
+
+abbrev pub check_at : Here → ℕ → Peer → Option PeerRule
+check_at x used p =
+    step_if (may_check x p && (nat_lt 0 (length p.watch.words)
+    || (nat_eq used 0 && is_due x p.watch.since))) CheckBeat
+
 -- the own memory is closed to a partner that is to be deactivated. Where the own bit stands at the
 -- partner it is told, and then the bit is cleared
 abbrev pub leave_bit : Peer → Option PeerRule
@@ -172,6 +189,10 @@ boot_after_read part st =
 abbrev pub boot_at : ℕ → State → Option Rule
 boot_at part st =
     if is_some st.boot.read then boot_after_read part st else Some (Own ReadStamp)
+
+-- the own heartbeat is stored, unless the partition is offline
+abbrev pub beat_at : State → Option Rule
+beat_at st = step_if (nat_eq st.beats.offline 0) (Own StoreBeat)
 
 -- the own mask isn't as the own memory stands for the partners
 abbrev pub mask_at : State → Option Rule

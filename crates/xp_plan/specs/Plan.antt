@@ -13,40 +13,41 @@ use Rattle.xp_script.specs.declared.command.Command.TheVariants.{Send, Take, Rel
 use Rattle.xp_script.specs.declared.part.ScenarioPart.{ScenarioPart}
 use Rattle.xp_protocol.specs.declared.rule.LinkRule.{LinkRule}
 use Rattle.xp_protocol.specs.declared.rule.PeerRule.TheVariants.{TakeFlags}
-use Rattle.xp_protocol.specs.declared.rule.OwnRule.TheVariants.{TakeActivation, TakeDeactivation}
+use Rattle.xp_protocol.specs.declared.rule.OwnRule.TheVariants.{TakeActivation, TakeDeactivation, StoreOffline}
 use Rattle.xp_protocol.specs.declared.rule.Rule.{Rule}
 use Rattle.xp_protocol.specs.declared.rule.Rule.TheVariants.{Link, Own}
 use Rattle.xp_protocol.specs.State.{State, Life, Booting, Up, Halted, End, Peer, peer_of, end_of}
-use Rattle.xp_protocol.specs.Rules.{here_of}
+use Rattle.xp_protocol.specs.Rules.{here_of, offline_asked}
 use Rattle.xp_protocol.specs.Acts.{current, EndName, named_end}
 use Rattle.xp_plan.specs.declared.errand.Agenda.{Agenda}
 use Rattle.xp_plan.specs.declared.errand.Agenda.TheVariants as agendas
 use Rattle.xp_plan.specs.declared.errand.Errand.{Errand}
 use Rattle.xp_plan.specs.declared.errand.Errand.TheVariants as errands
 use Rattle.xp_plan.specs.EndSteps.{send_at, take_at, counters_at, store_at, signal_at, step_if}
-use Rattle.xp_plan.specs.PeerSteps.{look_at, prepare_at, is_open_to, engage_at, answer_at, record_at, leave_at, for_peer, boot_at, mask_at, engagements_at}
+use Rattle.xp_plan.specs.PeerSteps.{look_at, prepare_at, is_open_to, engage_at, answer_at, record_at, leave_at, check_at, for_peer, boot_at, beat_at, mask_at, engagements_at}
 
 -- the errands of an agenda, in their order
 abbrev pub errands_of : Agenda → List Errand
 errands_of agendas.Boot = errands.Boot ∷ []
 errands_of agendas.Own =
-    errands.Mask ∷ errands.Activations ∷ errands.Deactivations ∷ errands.Engagements
+    errands.Beat ∷ errands.Mask ∷ errands.Activations ∷ errands.Deactivations ∷ errands.Engagements
     ∷ errands.Script ∷ []
 errands_of agendas.Apart =
     errands.Look ∷ errands.Prepare ∷ errands.Engage ∷ errands.Answer ∷ errands.Record
     ∷ errands.Answer ∷ errands.Leave ∷ errands.Bulk ∷ []
 errands_of agendas.Joined =
-    errands.Look ∷ errands.Flags
+    errands.Look ∷ errands.Flags ∷ errands.Check
     ∷ errands.Signal 0 ∷ errands.Signal 1 ∷ errands.Signal 2 ∷ errands.Signal 3
     ∷ errands.Counters 0 ∷ errands.Counters 1 ∷ errands.Counters 2 ∷ errands.Counters 3
     ∷ errands.Bulk ∷ errands.Leave ∷ []
 
--- how many turns of a visit an errand may take. A look has five loads. A memory is prepared by 35
--- steps. A record has eight words, and up to seven of one that was cut come first. Of a channel a
--- message is requested, get is stored, up to three arguments are loaded, and one flag is sent
--- behind up to three words
+-- how many turns of a visit an errand may take. A look has five loads, and a check three. A memory
+-- is prepared by 35 steps. A record has eight words, and up to seven of one that was cut come
+-- first. Of a channel a message is requested, get is stored, up to three arguments are loaded, and
+-- one flag is sent behind up to three words
 abbrev pub quota : Errand → ℕ
 quota errands.Boot = VISIT_TURNS
+quota errands.Beat = 1
 quota errands.Mask = 1
 quota errands.Activations = 1
 quota errands.Deactivations = 1
@@ -57,6 +58,7 @@ quota errands.Engage = 2
 quota errands.Answer = 2
 quota errands.Record = 15
 quota errands.Flags = 1
+quota errands.Check = 3
 quota (errands.Signal c) = 9
 quota (errands.Counters c) = 3
 quota errands.Bulk = 24
@@ -92,24 +94,28 @@ link_rule q c (Some m) = Some (Link q c m)
 abbrev pub link_asked : State → ℕ → ℕ → Option LinkRule → Option Rule
 link_asked st q c m = if is_joined (peer_of st q) then link_rule q c m else None
 
--- the step of a command in progress. A take loads no counters here, and other commands make no step
+-- the step of a command in progress. A take loads no counters here. Of those that name no end some
+-- store the offline count, and other commands make no step
 abbrev pub command_step : ℕ → End → Command → Option LinkRule
 command_step used e (Send q c payload wait notify) = send_at used e
 command_step used e (Take q c wait) = take_at e
 command_step used e (Release q c number) = store_at e
 command_step used e x = None
 
-abbrev pub command_at : State → ℕ → Command → Option EndName → Option Rule
-command_at st used x None = None
-command_at st used x (Some n) =
+abbrev pub offline_at : ScenarioPart → State → Option Rule
+offline_at s st = step_if (is_some (offline_asked s st)) (Own StoreOffline)
+
+abbrev pub command_at : ScenarioPart → State → ℕ → Command → Option EndName → Option Rule
+command_at s st used x None = offline_at s st
+command_at s st used x (Some n) =
     link_asked st n.partner n.channel (command_step used (end_of st n.partner n.channel) x)
 
-abbrev pub command_asked : State → ℕ → Option Command → Option Rule
-command_asked st used None = None
-command_asked st used (Some x) = command_at st used x (named_end x)
+abbrev pub command_asked : ScenarioPart → State → ℕ → Option Command → Option Rule
+command_asked s st used None = None
+command_asked s st used (Some x) = command_at s st used x (named_end x)
 
 abbrev pub script_asked : ScenarioPart → State → ℕ → Option Rule
-script_asked s st used = if st.script.doing then command_asked st used (current s st) else None
+script_asked s st used = if st.script.doing then command_asked s st used (current s st) else None
 
 -- what an errand asks for at the place of a partner, and at the own place
 abbrev pub ask_partner : ScenarioPart → ℕ → Errand → ℕ → State → Option Rule
@@ -120,6 +126,8 @@ ask_partner s q errands.Answer used st = for_peer q (answer_at (peer_of st q))
 ask_partner s q errands.Record used st = for_peer q (record_at used (peer_of st q))
 ask_partner s q errands.Flags used st =
     for_peer q (step_if (is_joined (peer_of st q)) TakeFlags)
+ask_partner s q errands.Check used st =
+    for_peer q (check_at (here_of s st q) used (peer_of st q))
 ask_partner s q (errands.Signal c) used st = link_asked st q c (signal_at used (end_of st q c))
 ask_partner s q (errands.Counters c) used st =
     link_asked st q c (counters_at used (end_of st q c))
@@ -128,6 +136,7 @@ ask_partner s q errands.Leave used st = for_peer q (leave_at (peer_of st q))
 ask_partner s q e used st = None
 
 abbrev pub ask_own : ScenarioPart → Errand → ℕ → State → Option Rule
+ask_own s errands.Beat used st = beat_at st
 ask_own s errands.Mask used st = mask_at st
 ask_own s errands.Activations used st = Some (Own TakeActivation)
 ask_own s errands.Deactivations used st = Some (Own TakeDeactivation)

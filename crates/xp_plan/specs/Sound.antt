@@ -8,7 +8,7 @@ use Rattle.xp_protocol.specs.Parts.{IsRequestSize}
 use Rattle.xp_protocol.specs.Sending.{Sending, words_each}
 use Rattle.xp_protocol.specs.Pulling.{Pulling, words_each as pulled_words_each}
 use Rattle.xp_protocol.specs.State.{State, Peer, End, is_connected, link_at, peer_of}
-use Rattle.xp_protocol.specs.Peering.{read_place}
+use Rattle.xp_protocol.specs.Peering.{CHECK_WORDS, read_place}
 
 -- messages fit the queue, and not all words of the next entry were stored in vain
 pub record IsSending (x : Sending) : Type 0 where
@@ -37,6 +37,7 @@ pub record IsSoundEnd (e : End) : Type 0 where
 -- a copy that goes on has loads left
 pub record IsSoundPeer (p : Peer) : Type 0 where
   pub page : length p.paging < 5
+  pub beat : length p.watch.words < CHECK_WORDS
   pub words : read_place p.engage.reading < RECORD_WORDS
   pub ends : (c : ℕ) → c < CHANNELS → IsSoundEnd (link_at p.links c)
 

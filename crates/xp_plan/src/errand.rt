@@ -18,6 +18,8 @@ pub enum Agenda {
 pub enum Errand {
     /// The steps of a boot.
     Boot,
+    /// The own heartbeat is stored, unless the partition is offline.
+    Beat,
     /// The own heartbeat mask is stored, where it isn't right.
     Mask,
     /// The own activation word is taken: which partners ask for a look.
@@ -39,6 +41,8 @@ pub enum Errand {
     Record,
     /// The own flag word of a partner is taken.
     Flags,
+    /// A check of a partner's heartbeat, where one is due.
+    Check,
     /// What is owed on a channel to tell the partner, and the arguments of its flags.
     Signal(u8),
     /// A copy of the partner's counters of a channel.

@@ -7,7 +7,7 @@ use xp_plan::errand::{Agenda, Errand};
 use xp_rounds::rounds::VISIT_TURNS;
 
 // How many errands an agenda has at most.
-pub const ERRANDS: u8 = 12;
+pub const ERRANDS: u8 = 13;
 
 // An errand of an agenda, by its place there.
 pub fn errand_at(agenda: Agenda, at: u8) -> Option<Errand>
@@ -29,11 +29,12 @@ fn own_errand(at: u8) -> Option<Errand>
     ensures few { IsSome result → at < ERRANDS }
 {
     match at {
-        0 => Some(Errand::Mask),
-        1 => Some(Errand::Activations),
-        2 => Some(Errand::Deactivations),
-        3 => Some(Errand::Engagements),
-        4 => Some(Errand::Script),
+        0 => Some(Errand::Beat),
+        1 => Some(Errand::Mask),
+        2 => Some(Errand::Activations),
+        3 => Some(Errand::Deactivations),
+        4 => Some(Errand::Engagements),
+        5 => Some(Errand::Script),
         _ => None,
     }
 }
@@ -63,16 +64,17 @@ fn joined_errand(at: u8) -> Option<Errand>
     match at {
         0 => Some(Errand::Look),
         1 => Some(Errand::Flags),
-        2 => Some(Errand::Signal(0)),
-        3 => Some(Errand::Signal(1)),
-        4 => Some(Errand::Signal(2)),
-        5 => Some(Errand::Signal(3)),
-        6 => Some(Errand::Counters(0)),
-        7 => Some(Errand::Counters(1)),
-        8 => Some(Errand::Counters(2)),
-        9 => Some(Errand::Counters(3)),
-        10 => Some(Errand::Bulk),
-        11 => Some(Errand::Leave),
+        2 => Some(Errand::Check),
+        3 => Some(Errand::Signal(0)),
+        4 => Some(Errand::Signal(1)),
+        5 => Some(Errand::Signal(2)),
+        6 => Some(Errand::Signal(3)),
+        7 => Some(Errand::Counters(0)),
+        8 => Some(Errand::Counters(1)),
+        9 => Some(Errand::Counters(2)),
+        10 => Some(Errand::Counters(3)),
+        11 => Some(Errand::Bulk),
+        12 => Some(Errand::Leave),
         _ => None,
     }
 }
@@ -83,13 +85,14 @@ pub fn quota(errand: Errand) -> u8
     ensures range { result ≤ VISIT_TURNS }
 {
     match errand {
-        Errand::Mask
+        Errand::Beat
+        | Errand::Mask
         | Errand::Activations
         | Errand::Deactivations
         | Errand::Engagements
         | Errand::Flags => 1,
         Errand::Engage | Errand::Answer => 2,
-        Errand::Counters(_) | Errand::Leave => 3,
+        Errand::Check | Errand::Counters(_) | Errand::Leave => 3,
         Errand::Look => 5,
         Errand::Signal(_) => 9,
         Errand::Record => 15,

@@ -15,7 +15,7 @@ use Rattle.xp_protocol.specs.declared.rule.RecordField.{RecordField}
 use Rattle.xp_protocol.specs.declared.rule.RecordField.TheVariants.{ArgsPlace, CountersPlace, FlagPlace, ChannelCount, Spare}
 use Rattle.xp_protocol.specs.declared.rule.AreaWord.TheVariants.{SessionWord, EchoWord, PlaceWord, ArgsWord, FlagWord, CounterWord}
 use Rattle.xp_protocol.specs.declared.rule.PeerRule.{PeerRule}
-use Rattle.xp_protocol.specs.declared.rule.PeerRule.TheVariants.{AskActivation, TakeFlags, CloseArea, ZeroMagic, ClearOldBit, Prepare, OpenArea, SetEngagementBit, ReadRecord, StoreEcho, StoreSecond, ClearEngagementBit, LookAtPage, ClearDeactivationBit, TellPartner}
+use Rattle.xp_protocol.specs.declared.rule.PeerRule.TheVariants.{AskActivation, TakeFlags, CloseArea, ZeroMagic, ClearOldBit, Prepare, OpenArea, SetEngagementBit, ReadRecord, StoreEcho, StoreSecond, ClearEngagementBit, LookAtPage, CheckBeat, ClearDeactivationBit, TellPartner}
 use Rattle.xp_protocol.specs.Effects.{Effect, Note}
 use Rattle.xp_protocol.specs.State.{Ready, Reading, Peer}
 use Rattle.xp_protocol.specs.Peering.{Here, field_number, field_word, is_wrong, is_magic, is_bad_flags, is_prepared, same_peer, say_reason, contact_made, try_contact, area_left_for, area_off, with_reason, record_read, has_shown, peer_can, peer_effect, peer_failed, booted_peer}
@@ -106,8 +106,8 @@ module _ (own : RecordField → Type 0) (theirs : Type 0) where
       let g = and_parts (eqb p.engage.places_put 248) _ f.1 in
       h.0 y (ap (λ (m : ℕ). bit_at m (field_number y)) (eqb-true p.engage.places_put 248 g.0) ∙ all_put y)
 
-  contact_stands : (n : ℕ) (p : Peer) → Stands own theirs p → Stands own theirs (try_contact n p).local
-  contact_stands n p h = either (p.engage.second && (p.engage.shown && not (is_some p.contact))) (contact_made n p) (same_peer p) h h
+  contact_stands : (turn n : ℕ) (p : Peer) → Stands own theirs p → Stands own theirs (try_contact turn n p).local
+  contact_stands turn n p h = either (p.engage.second && (p.engage.shown && not (is_some p.contact))) (contact_made turn n p) (same_peer p) h h
 
   left_stands : (o : Option Reason) (p : Peer) → Stands own theirs p → Stands own theirs (area_left_for o p).local
   left_stands None p h = h
@@ -125,7 +125,7 @@ module _ (own : RecordField → Type 0) (theirs : Type 0) where
   read_stands y p v begins h (Some r) i =
       let t : theirs = h.2 (ap (λ (o : Option Reading). is_some o) i) in
       either (eqb r.done 1) _ _ (h.0, h.1, λ e. t) (either (eqb r.done 2) _ _ (h.0, h.1, λ e. t) (either (eqb r.done 7) _ _
-      (either (has_shown y.stamp p.engage r) _ _ (contact_stands y.stamp (record p { engage = record p.engage { shown = true; reading = None } }) (h.0, h.1, λ e. t)) (h.0, h.1, λ e. t))
+      (either (has_shown y.stamp p.engage r) _ _ (contact_stands y.turn y.stamp (record p { engage = record p.engage { shown = true; reading = None } }) (h.0, h.1, λ e. t)) (h.0, h.1, λ e. t))
       (either (is_wrong y.part r.done v) _ _ (h.0, h.1, λ e. t) (h.0, h.1, λ e. t))))
 
   pub peer_stands : (y : Here) (p : Peer) (m : PeerRule) (v : ℕ) → peer_can y p m → ((x : RecordField) → m ≡ Prepare (PlaceWord x) → own x) → (m ≡ ReadRecord → p.engage.reading ≡ None → (v ≡ 0 → ⊥) → theirs) → Stands own theirs p → Stands own theirs (peer_effect y p m v).local
@@ -147,9 +147,10 @@ module _ (own : RecordField → Type 0) (theirs : Type 0) where
   peer_stands y p SetEngagementBit v can new begins h = (h.0, h.1, λ e. absurd (cc))
   peer_stands y p ReadRecord v can new begins h = read_stands y p v (begins refl) h p.engage.reading refl
   peer_stands y p StoreEcho v can new begins h = h
-  peer_stands y p StoreSecond v can new begins h = contact_stands y.stamp (record p { engage = record p.engage { second = true } }) h
+  peer_stands y p StoreSecond v can new begins h = contact_stands y.turn y.stamp (record p { engage = record p.engage { second = true } }) h
   peer_stands y p ClearEngagementBit v can new begins h = h
   peer_stands y p LookAtPage v can new begins h = either (eqb (length (p.paging ++ v ∷ [])) 5) _ _ h h
+  peer_stands y p CheckBeat v can new begins h = h
   peer_stands y p ClearDeactivationBit v can new begins h = h
   peer_stands y p TellPartner v can new begins h = h
 
@@ -157,10 +158,10 @@ module _ (own : RecordField → Type 0) (theirs : Type 0) where
   numbered_stands None p h = h
   numbered_stands (Some mark) p h = h
 
-  pub failed_stands : (mark : Option CopyMark) (p : Peer) → Stands own theirs p → Stands own theirs (peer_failed mark p)
-  failed_stands None p h = h
-  failed_stands (Some mark) p h = by mark.kind where
-    by : (kind : CopyKind) → Stands own theirs (peer_failed (Some (record mark { kind = kind })) p)
+  pub failed_stands : (turn : ℕ) (mark : Option CopyMark) (p : Peer) → Stands own theirs p → Stands own theirs (peer_failed turn mark p)
+  failed_stands turn None p h = h
+  failed_stands turn (Some mark) p h = by mark.kind where
+    by : (kind : CopyKind) → Stands own theirs (peer_failed turn (Some (record mark { kind = kind })) p)
     by RecordCopy = (h.0, h.1, λ e. absurd (cc))
     by kind = h
 

@@ -15,8 +15,8 @@ use Rattle.xp_protocol.specs.declared.rule.AreaWord.TheVariants.{SessionWord, Ec
 use Rattle.xp_protocol.specs.declared.rule.RingRule.TheVariants.{ReadGet, WriteEntryWord, AcceptMessage}
 use Rattle.xp_protocol.specs.declared.rule.PullRule.TheVariants.{ReadCounters, ReadEntry}
 use Rattle.xp_protocol.specs.declared.rule.LinkRule.TheVariants.{Ring, Pull, Acknowledge, SetFlag, ZeroGet, ZeroPut, StoreArgument, ReadArgument}
-use Rattle.xp_protocol.specs.declared.rule.PeerRule.TheVariants.{AskActivation, TakeFlags, CloseArea, ZeroMagic, ClearOldBit, Prepare, OpenArea, SetEngagementBit, ReadRecord, StoreEcho, StoreSecond, ClearEngagementBit, LookAtPage, ClearDeactivationBit, TellPartner}
-use Rattle.xp_protocol.specs.declared.rule.OwnRule.TheVariants.{ReadEngaged, TakeDeactivation, ReadStamp, ZeroMask, ZeroOffline, WriteStamp, StoreMask, TakeActivation}
+use Rattle.xp_protocol.specs.declared.rule.PeerRule.TheVariants.{AskActivation, TakeFlags, CloseArea, ZeroMagic, ClearOldBit, Prepare, OpenArea, SetEngagementBit, ReadRecord, StoreEcho, StoreSecond, ClearEngagementBit, LookAtPage, CheckBeat, ClearDeactivationBit, TellPartner}
+use Rattle.xp_protocol.specs.declared.rule.OwnRule.TheVariants.{ReadEngaged, TakeDeactivation, ReadStamp, ZeroMask, ZeroOffline, WriteStamp, StoreMask, TakeActivation, StoreBeat, StoreOffline}
 use Rattle.xp_protocol.specs.declared.rule.Rule.{Rule}
 use Rattle.xp_protocol.specs.declared.rule.Rule.TheVariants.{Link, Peer as ForPeer, Own}
 use Rattle.xp_script.specs.declared.part.ScenarioPart.{ScenarioPart}
@@ -70,6 +70,7 @@ opens su st (ForPeer q StoreEcho) w can n bit met = absurd (n refl)
 opens su st (ForPeer q StoreSecond) w can n bit met = absurd (n refl)
 opens su st (ForPeer q ClearEngagementBit) w can n bit met = tt
 opens su st (ForPeer q LookAtPage) w can n bit met = tt
+opens su st (ForPeer q CheckBeat) w can n bit met = tt
 opens su st (ForPeer q ClearDeactivationBit) w can n bit met = absurd (n refl)
 opens su st (ForPeer q TellPartner) w can n bit met = tt
 opens su st (Own m) w can n bit met = absurd (n (same_owner (row_of su st (Own m)).own su.part))
@@ -117,6 +118,7 @@ bits_kept su st (ForPeer k StoreEcho) w q i a b n = refl
 bits_kept su st (ForPeer k StoreSecond) w q i a b n = refl
 bits_kept su st (ForPeer k ClearEngagementBit) w q i a b n = and_bits w su.part k q i a b n
 bits_kept su st (ForPeer k LookAtPage) w q i a b n = refl
+bits_kept su st (ForPeer k CheckBeat) w q i a b n = refl
 bits_kept su st (ForPeer k ClearDeactivationBit) w q i a b n = refl
 bits_kept su st (ForPeer k TellPartner) w q i a b n = refl
 bits_kept su st (Own ReadEngaged) w q i a b n = refl
@@ -127,6 +129,8 @@ bits_kept su st (Own ZeroOffline) w q i a b n = refl
 bits_kept su st (Own WriteStamp) w q i a b n = refl
 bits_kept su st (Own StoreMask) w q i a b n = refl
 bits_kept su st (Own TakeActivation) w q i a b n = refl
+bits_kept su st (Own StoreBeat) w q i a b n = refl
+bits_kept su st (Own StoreOffline) w q i a b n = refl
 
 module _ (s : Scenario) (law : IsLawful s) where
   abbrev Here : List Event → ℕ → Turn → Type 0

@@ -28,8 +28,8 @@ use Rattle.xp_protocol.specs.declared.contact.Look.TheVariants.{Absent, BadVersi
 use Rattle.xp_protocol.specs.declared.rule.AreaWord.{AreaWord}
 use Rattle.xp_protocol.specs.declared.rule.AreaWord.TheVariants.{SessionWord, EchoWord, PlaceWord, ArgsWord, FlagWord, CounterWord}
 use Rattle.xp_protocol.specs.declared.rule.PeerRule.{PeerRule}
-use Rattle.xp_protocol.specs.declared.rule.PeerRule.TheVariants.{AskActivation, TakeFlags, CloseArea, ZeroMagic, ClearOldBit, Prepare, OpenArea, SetEngagementBit, ReadRecord, StoreEcho, StoreSecond, ClearEngagementBit, LookAtPage, ClearDeactivationBit, TellPartner}
-use Rattle.xp_protocol.specs.declared.rule.OwnRule.TheVariants.{ReadEngaged, TakeDeactivation, ReadStamp, ZeroMask, ZeroOffline, WriteStamp, StoreMask, TakeActivation}
+use Rattle.xp_protocol.specs.declared.rule.PeerRule.TheVariants.{AskActivation, TakeFlags, CloseArea, ZeroMagic, ClearOldBit, Prepare, OpenArea, SetEngagementBit, ReadRecord, StoreEcho, StoreSecond, ClearEngagementBit, LookAtPage, CheckBeat, ClearDeactivationBit, TellPartner}
+use Rattle.xp_protocol.specs.declared.rule.OwnRule.TheVariants.{ReadEngaged, TakeDeactivation, ReadStamp, ZeroMask, ZeroOffline, WriteStamp, StoreMask, TakeActivation, StoreBeat, StoreOffline}
 use Rattle.xp_protocol.specs.declared.rule.Rule.{Rule}
 use Rattle.xp_protocol.specs.declared.rule.Rule.TheVariants.{Link, Peer as ForPeer, Own}
 use Rattle.xp_protocol.specs.Effects.{Effect, Note}
@@ -88,14 +88,14 @@ module _ (v : ℕ) where
   either own true f g h k = h refl
   either own false f g h k = k
 
-  meets : (own stamp : ℕ) (p : Peer) → KnowsOf own v p → KnowsOf own v (try_contact stamp p).local
-  meets own stamp p h = either own (p.engage.second && (p.engage.shown && not (is_some p.contact))) (contact_made stamp p) (same_peer p) (λ t. h) h
+  meets : (own turn stamp : ℕ) (p : Peer) → KnowsOf own v p → KnowsOf own v (try_contact turn stamp p).local
+  meets own turn stamp p h = either own (p.engage.second && (p.engage.shown && not (is_some p.contact))) (contact_made turn stamp p) (same_peer p) (λ t. h) h
 
   reads : (own : ℕ) (y : Here) (p : Peer) (o : Option Reading) (w : ℕ) → KnowsOf own v p → KnowsOf own v (record_read y p o w).local
   reads own y p None w h = either own (eqb w 0) _ _ (λ t. h) (either own (is_magic w) _ _ (λ t. h) h)
   reads own y p (Some r) w h =
       either own (eqb r.done 1) _ _ (λ t. h) (either own (eqb r.done 2) _ _ (λ t. h) (either own (eqb r.done 7) _ _
-      (λ t. either own (has_shown y.stamp p.engage r) _ _ (λ t. meets own y.stamp (record p { engage = record p.engage { shown = true; reading = None } }) h) h)
+      (λ t. either own (has_shown y.stamp p.engage r) _ _ (λ t. meets own y.turn y.stamp (record p { engage = record p.engage { shown = true; reading = None } }) h) h)
       (either own (is_wrong y.part r.done w) _ _ (λ t. h) h)))
 
   leaves : (own : ℕ) (o : Option Reason) (p : Peer) → KnowsOf own v p → KnowsOf own v (area_left_for o p).local
@@ -128,10 +128,11 @@ module _ (v : ℕ) where
   peered y p SetEngagementBit w good look h = record { paged = h.paged; good = h.good; inside = λ b. h.good (good refl) }
   peered y p ClearEngagementBit w good look h = record { paged = h.paged; good = h.good; inside = λ b. absurd (cc) }
   peered y p LookAtPage w good look h = looks y.version (p.paging ++ w ∷ []) w p h (paged_next p.paging w v h.paged (look refl))
+  peered y p CheckBeat w good look h = h
   peered y p TakeFlags w good look h = either y.version (is_bad_flags w) _ (flags_taken w p) (λ t. h) h
   peered y p CloseArea w good look h = leaves y.version p.engage.reason p h
   peered y p ReadRecord w good look h = reads y.version y p p.engage.reading w h
-  peered y p StoreSecond w good look h = meets y.version y.stamp (record p { engage = record p.engage { second = true } }) h
+  peered y p StoreSecond w good look h = meets y.version y.turn y.stamp (record p { engage = record p.engage { second = true } }) h
   peered y p AskActivation w good look h = h
   peered y p ZeroMagic w good look h = h
   peered y p ClearOldBit w good look h = h
@@ -145,9 +146,9 @@ module _ (v : ℕ) where
   numbered y None p m w good look h = peered y p m w good look h
   numbered y (Some mark) p m w good look h = peered y (peer_numbered (Some mark) p) m w good look h
 
-  failed : (own : ℕ) (mark : Option CopyMark) (p : Peer) → KnowsOf own v p → KnowsOf own v (peer_failed mark p)
-  failed own None p h = h
-  failed own (Some mark) p h = record { paged = failed_paging mark.kind p.paging v h.paged; good = h.good; inside = h.inside }
+  failed : (own turn : ℕ) (mark : Option CopyMark) (p : Peer) → KnowsOf own v p → KnowsOf own v (peer_failed turn mark p)
+  failed own turn None p h = h
+  failed own turn (Some mark) p h = record { paged = failed_paging mark.kind p.paging v h.paged; good = h.good; inside = h.inside }
 
   told : (own : ℕ) (w q : ℕ) (p : Peer) → KnowsOf own v p → KnowsOf own v (deactivation_heard w q p).local
   told own w q p h = by (is_some p.engage.echo && is_flagged w q) where
@@ -245,10 +246,12 @@ module _ (s : Scenario) (law : IsLawful s) where
     ruled w stand (Own WriteStamp) can q l = old q l
     ruled w stand (Own StoreMask) can q l = old q l
     ruled w stand (Own TakeActivation) can q l = old q l
+    ruled w stand (Own StoreBeat) can q l = old q l
+    ruled w stand (Own StoreOffline) can q l = old q l
 
     failed_ruled : (r : Rule) (q : ℕ) → q < s.count → KnowsOf (own a) (version q) (peer_of (after_answer su st r Failed) q)
     failed_ruled (Link k d m) q l = at_peer (λ (p : Peer). KnowsOf (own a) (version q) p) st.peers k _ q (λ e. subst (λ (j : ℕ). KnowsOf (own a) (version q) (peer_of st j)) e (old q l)) (old q l)
-    failed_ruled (ForPeer k m) q l = at_peer (λ (p : Peer). KnowsOf (own a) (version q) p) st.peers k _ q (λ e. failed (version q) (own a) (mark_of su st (ForPeer k m)) (peer_of st k) (subst (λ (j : ℕ). KnowsOf (own a) (version q) (peer_of st j)) e (old q l))) (old q l)
+    failed_ruled (ForPeer k m) q l = at_peer (λ (p : Peer). KnowsOf (own a) (version q) p) st.peers k _ q (λ e. failed (version q) (own a) (here_of su st k).turn (mark_of su st (ForPeer k m)) (peer_of st k) (subst (λ (j : ℕ). KnowsOf (own a) (version q) (peer_of st j)) e (old q l))) (old q l)
     failed_ruled (Own m) q l = old q l
 
     aimed_at : (x : Option Aim) (q : ℕ) → q < s.count → KnowsOf (own a) (version q) (peer_of (with_aim x st) q)

@@ -1,6 +1,6 @@
 -- Each rule, each act and each moment keeps all directions.
 use Rattle.std.proofs.Common.{ltb, ◌≡◌, ℕ, ◌+◌, ◌<◌, Bool, true, false, not, ◌&&◌, cond, eqb, List, [], ◌∷◌, ◌++◌, refl, ap, sym, ◌∙◌, subst, Option, Some, None, inl, inr, ◌⊎◌, arith, ◌||◌}
-use Rattle.std.specs.Prelude.{is_some, slice_get, ◌-◌}
+use Rattle.std.specs.Prelude.{is_some, slice_get, slice_index, ◌-◌}
 use Rattle.xp_base.specs.declared.step.Answer.{Answer}
 use Rattle.xp_base.specs.declared.step.Answer.TheVariants.{Word, Failed}
 use Rattle.xp_base.specs.declared.reason.Reason.{Reason}
@@ -27,8 +27,8 @@ use Rattle.xp_protocol.specs.declared.rule.Argument.{Argument}
 use Rattle.xp_protocol.specs.declared.rule.Argument.TheVariants.{Request, Reply, Code}
 use Rattle.xp_protocol.specs.declared.rule.AreaWord.{AreaWord}
 use Rattle.xp_protocol.specs.declared.rule.PeerRule.{PeerRule}
-use Rattle.xp_protocol.specs.declared.rule.PeerRule.TheVariants.{AskActivation, TakeFlags, CloseArea, ZeroMagic, ClearOldBit, Prepare, OpenArea, SetEngagementBit, ReadRecord, StoreEcho, StoreSecond, ClearEngagementBit, LookAtPage, ClearDeactivationBit, TellPartner}
-use Rattle.xp_protocol.specs.declared.rule.OwnRule.TheVariants.{ReadEngaged, TakeDeactivation, ReadStamp, ZeroMask, ZeroOffline, WriteStamp, StoreMask, TakeActivation}
+use Rattle.xp_protocol.specs.declared.rule.PeerRule.TheVariants.{AskActivation, TakeFlags, CloseArea, ZeroMagic, ClearOldBit, Prepare, OpenArea, SetEngagementBit, ReadRecord, StoreEcho, StoreSecond, ClearEngagementBit, LookAtPage, CheckBeat, ClearDeactivationBit, TellPartner}
+use Rattle.xp_protocol.specs.declared.rule.OwnRule.TheVariants.{ReadEngaged, TakeDeactivation, ReadStamp, ZeroMask, ZeroOffline, WriteStamp, StoreMask, TakeActivation, StoreBeat, StoreOffline}
 use Rattle.xp_protocol.specs.declared.rule.Rule.{Rule}
 use Rattle.xp_protocol.specs.declared.rule.Rule.TheVariants.{Link, Peer as ForPeer, Own}
 use Rattle.xp_script.specs.declared.part.ScenarioPart.{ScenarioPart}
@@ -39,16 +39,16 @@ use Rattle.xp_protocol.specs.Promised.{IsUnrefused}
 use Rattle.xp_protocol.specs.Effects.{Effect, Note, with_notes}
 use Rattle.xp_protocol.specs.Sending.{payload_of, next_slot}
 use Rattle.xp_protocol.specs.Pulling.{counters_word}
-use Rattle.xp_protocol.specs.State.{Reading, State, End, Contact, Old, link_at, end_of, peer_of, Peer}
+use Rattle.xp_protocol.specs.State.{Reading, State, End, Contact, Old, link_at, end_of, peer_of, Peer, Watch}
 use Rattle.xp_protocol.specs.Linking.{argument_word, argument_field, link_can, link_effect, flags_got, link_down}
-use Rattle.xp_protocol.specs.Peering.{is_ready, last_read, Here, left_engage, is_wrong, failed_reason, look_reason, judged, has_shown, fails_for, field_number, say_reason, end_reason, with_flags}
+use Rattle.xp_protocol.specs.Peering.{is_ready, last_read, Here, left_engage, is_wrong, failed_reason, look_reason, judged, has_shown, fails_for, field_number, say_reason, end_reason, with_flags, watch_reason, beat_reason, is_still}
 use Rattle.xp_protocol.specs.State.{set_link}
 use Rattle.xp_protocol.specs.Rules.{numbered}
 use Rattle.xp_protocol.specs.declared.contact.Look.{Look}
 use Rattle.xp_protocol.specs.declared.contact.Look.TheVariants.{Unseen, Good as GoodLook, Absent, BadVersion}
 use Rattle.xp_protocol.specs.declared.rule.RecordField.{RecordField}
 use Rattle.xp_protocol.specs.declared.rule.RecordField.TheVariants.{ArgsPlace, CountersPlace, FlagPlace, ChannelCount, Spare}
-use Rattle.xp_base.specs.declared.reason.Reason.TheVariants.{BadArgs, Reactivating, CopyError}
+use Rattle.xp_base.specs.declared.reason.Reason.TheVariants.{BadArgs, NoHeartbeat, Reactivating, CopyError}
 use Rattle.xp_base.specs.Sessions.{session_of}
 use Rattle.xp_protocol.specs.Peering.{links_reason, try_contact, contact_made, record_read, read_place, is_magic, first_magic, second_magic, is_flagged, is_left, area_left_for, area_off, same_peer, peer_effect, peer_read, deactivation_heard, with_reason, is_bad_flags, flags_taken}
 use Rattle.std.proofs.lemmas.Bool.{cond_both, cases_eq}
@@ -265,6 +265,7 @@ module _ (s : Scenario) (lawful : (p : ℕ) → p < s.count → IsLawfulPart (pa
     away (ForPeer k StoreSecond) p q c n o = refl
     away (ForPeer k ClearEngagementBit) p q c n o = refl
     away (ForPeer k LookAtPage) p q c n o = refl
+    away (ForPeer k CheckBeat) p q c n o = refl
     away (ForPeer k ClearDeactivationBit) p q c n o = refl
     away (ForPeer k TellPartner) p q c n o = refl
     away (Own ReadEngaged) p q c n o = refl
@@ -275,6 +276,8 @@ module _ (s : Scenario) (lawful : (p : ℕ) → p < s.count → IsLawfulPart (pa
     away (Own ZeroOffline) p q c n o = refl
     away (Own StoreMask) p q c n o = refl
     away (Own TakeActivation) p q c n o = refl
+    away (Own StoreBeat) p q c n o = refl
+    away (Own StoreOffline) p q c n o = refl
 
     -- how a and another stand to each other
     abbrev my_side : ℕ → Side
@@ -370,6 +373,7 @@ module _ (s : Scenario) (lawful : (p : ℕ) → p < s.count → IsLawfulPart (pa
     wrote k c lc StoreSecond n = refl
     wrote k c lc ClearEngagementBit n = refl
     wrote k c lc LookAtPage n = refl
+    wrote k c lc CheckBeat n = refl
     wrote k c lc ClearDeactivationBit n = refl
     wrote k c lc TellPartner n = refl
 
@@ -392,6 +396,7 @@ module _ (s : Scenario) (lawful : (p : ℕ) → p < s.count → IsLawfulPart (pa
     peer_theirs k StoreSecond q c n t = refl
     peer_theirs k ClearEngagementBit q c n t = refl
     peer_theirs k LookAtPage q c n t = refl
+    peer_theirs k CheckBeat q c n t = refl
     peer_theirs k ClearDeactivationBit q c n t = refl
     peer_theirs k TellPartner q c n t = refl
 
@@ -414,6 +419,7 @@ module _ (s : Scenario) (lawful : (p : ℕ) → p < s.count → IsLawfulPart (pa
     peer_mine k StoreSecond q c o t = refl
     peer_mine k ClearEngagementBit q c o t = refl
     peer_mine k LookAtPage q c o t = refl
+    peer_mine k CheckBeat q c o t = refl
     peer_mine k ClearDeactivationBit q c o t = refl
     peer_mine k TellPartner q c o t = refl
 
@@ -484,6 +490,7 @@ module _ (s : Scenario) (lawful : (p : ℕ) → p < s.count → IsLawfulPart (pa
     ruled (ForPeer k StoreSecond) can q c l = peered k StoreSecond (λ e. absurd (cc)) can q c l
     ruled (ForPeer k ClearEngagementBit) can q c l = peered k ClearEngagementBit (λ e. absurd (cc)) can q c l
     ruled (ForPeer k LookAtPage) can q c l = peered k LookAtPage (λ e. absurd (cc)) can q c l
+    ruled (ForPeer k CheckBeat) can q c l = peered k CheckBeat (λ e. absurd (cc)) can q c l
     ruled (ForPeer k ClearDeactivationBit) can q c l = peered k ClearDeactivationBit (λ e. absurd (cc)) can q c l
     ruled (ForPeer k TellPartner) can q c l = peered k TellPartner (λ e. absurd (cc)) can q c l
     ruled (Own ReadEngaged) can q c l = freed q c _ l can.0 refl
@@ -494,6 +501,8 @@ module _ (s : Scenario) (lawful : (p : ℕ) → p < s.count → IsLawfulPart (pa
         (λ f. absurd (past q c l f))
     ruled (Own StoreMask) can q c l = good.fine a q c l
     ruled (Own TakeActivation) can q c l = good.fine a q c l
+    ruled (Own StoreBeat) can q c l = good.fine a q c l
+    ruled (Own StoreOffline) can q c l = good.fine a q c l
     ruled (Own ZeroMask) can q c l = good.fine a q c l
     ruled (Own ZeroOffline) can q c l = good.fine a q c l
     ruled (Own ReadStamp) can q c l = halts (ltb (w a (OpenWord 4)) 4294967295) where
@@ -546,6 +555,7 @@ module _ (s : Scenario) (lawful : (p : ℕ) → p < s.count → IsLawfulPart (pa
     clean (ForPeer k StoreSecond) can p q c l = good.words p q c l
     clean (ForPeer k ClearEngagementBit) can p q c l = good.words p q c l
     clean (ForPeer k LookAtPage) can p q c l = good.words p q c l
+    clean (ForPeer k CheckBeat) can p q c l = good.words p q c l
     clean (ForPeer k ClearDeactivationBit) can p q c l = good.words p q c l
     clean (ForPeer k TellPartner) can p q c l = good.words p q c l
     clean (Own ReadEngaged) can p q c l = good.words p q c l
@@ -556,6 +566,8 @@ module _ (s : Scenario) (lawful : (p : ℕ) → p < s.count → IsLawfulPart (pa
     clean (Own ZeroOffline) can p q c l = good.words p q c l
     clean (Own StoreMask) can p q c l = good.words p q c l
     clean (Own TakeActivation) can p q c l = good.words p q c l
+    clean (Own StoreBeat) can p q c l = good.words p q c l
+    clean (Own StoreOffline) can p q c l = good.words p q c l
 
     -- magics stay such
     record_word : (k v p q : ℕ) → IsMagical v → IsMagical (w p (Record q 0)) → IsMagical (does (Store v) a (Record k 0) w p (Record q 0))
@@ -589,6 +601,7 @@ module _ (s : Scenario) (lawful : (p : ℕ) → p < s.count → IsLawfulPart (pa
     magical (ForPeer k (Prepare (PlaceWord ChannelCount))) can p q c l = good.magics p q c l
     magical (ForPeer k (Prepare (PlaceWord Spare))) can p q c l = good.magics p q c l
     magical (ForPeer k LookAtPage) can p q c l = good.magics p q c l
+    magical (ForPeer k CheckBeat) can p q c l = good.magics p q c l
     magical (ForPeer k ClearDeactivationBit) can p q c l = good.magics p q c l
     magical (ForPeer k TellPartner) can p q c l = good.magics p q c l
     magical (ForPeer k OpenArea) can p q c l = record_word k first_magic p q refl (good.magics p q c l)
@@ -605,6 +618,8 @@ module _ (s : Scenario) (lawful : (p : ℕ) → p < s.count → IsLawfulPart (pa
     magical (Own ZeroOffline) can p q c l = good.magics p q c l
     magical (Own StoreMask) can p q c l = good.magics p q c l
     magical (Own TakeActivation) can p q c l = good.magics p q c l
+    magical (Own StoreBeat) can p q c l = good.magics p q c l
+    magical (Own StoreOffline) can p q c l = good.magics p q c l
 
     -- nothing is refused
     abbrev CleanAt : Peer → Type 0
@@ -643,8 +658,8 @@ module _ (s : Scenario) (lawful : (p : ℕ) → p < s.count → IsLawfulPart (pa
     either true f g h k = h
     either false f g h k = k
 
-    contact_clean : (n : ℕ) (p : Peer) → CleanAt p → CleanFor (try_contact n p)
-    contact_clean n p h = either (p.engage.second && (p.engage.shown && not (is_some p.contact))) (contact_made n p) (same_peer p) (h, tt) (h, tt)
+    contact_clean : (turn n : ℕ) (p : Peer) → CleanAt p → CleanFor (try_contact turn n p)
+    contact_clean turn n p h = either (p.engage.second && (p.engage.shown && not (is_some p.contact))) (contact_made turn n p) (same_peer p) (h, tt) (h, tt)
 
     maybe_clean : (b : Bool) → IsUnrefused (cond b (Some (OtherGoingDown 0)) None)
     maybe_clean true = tt
@@ -655,14 +670,14 @@ module _ (s : Scenario) (lawful : (p : ℕ) → p < s.count → IsLawfulPart (pa
     magic_clean false true f g n t h k = k
     magic_clean false false f g n t h k = absurd (cc)
 
-    last_clean : (n : ℕ) (p : Peer) (r : Reading) → CleanAt p → CleanFor (last_read n p r)
-    last_clean n p r h = either (has_shown n p.engage r) _ _ (contact_clean n (record p { engage = record p.engage { shown = true; reading = None } }) h) (h, tt)
+    last_clean : (turn n : ℕ) (p : Peer) (r : Reading) → CleanAt p → CleanFor (last_read turn n p r)
+    last_clean turn n p r h = either (has_shown n p.engage r) _ _ (contact_clean turn n (record p { engage = record p.engage { shown = true; reading = None } }) h) (h, tt)
 
     record_clean : (y : Here) (p : Peer) (o : Option Reading) (v : ℕ) → (read_place o ≡ 0 → IsMagical v) → is_wrong y.part (read_place o) v ≡ false → CleanAt p → CleanFor (record_read y p o v)
     record_clean y p None v mg ok h = magic_clean (eqb v 0) (is_magic v) _ _ _ (mg refl) (h, maybe_clean (is_some p.engage.echo)) (h, tt)
     record_clean y p (Some r) v mg ok h =
         let P : Bool → Type 0 = λ b. CleanFor (cond b (say_reason (Some (BadArgs v)) (record p { engage = record p.engage { reading = None } })) (same_peer (record p { engage = record p.engage { reading = Some (record r { done = r.done + 1 }) } }))) in
-        either (eqb r.done 1) _ _ (h, tt) (either (eqb r.done 2) _ _ (h, tt) (either (eqb r.done 7) _ _ (last_clean y.stamp p r h) (subst P (sym ok) (h, tt))))
+        either (eqb r.done 1) _ _ (h, tt) (either (eqb r.done 2) _ _ (h, tt) (either (eqb r.done 7) _ _ (last_clean y.turn y.stamp p r h) (subst P (sym ok) (h, tt))))
 
     look_clean : (o : Option ℕ) (l : Look) (n : ℕ) → IsUnrefused (look_reason o l n)
     look_clean None l n = tt
@@ -672,6 +687,16 @@ module _ (s : Scenario) (lawful : (p : ℕ) → p < s.count → IsLawfulPart (pa
     look_clean (Some echo) (GoodLook version) n = by (eqb (session_of echo).stamp n) where
       by : (b : Bool) → IsUnrefused (cond b None (Some (Reactivating (session_of echo).stamp n)))
       by true = tt
+      by false = tt
+
+    still_clean : (last now mask : ℕ) (b : Bool) → IsUnrefused (cond b (Some (NoHeartbeat last now mask)) None)
+    still_clean last now mask true = tt
+    still_clean last now mask false = tt
+
+    watch_clean : (part : ℕ) (words : List ℕ) (x : Watch) → IsUnrefused (watch_reason part words x)
+    watch_clean part words x = by (eqb (length words) 3) where
+      by : (b : Bool) → IsUnrefused (cond b (beat_reason part x.last words) None)
+      by true = still_clean (or_zero x.last) (slice_index words 0) (slice_index words 1) (is_still part x.last words)
       by false = tt
 
     left_clean : (o : Option Reason) (p : Peer) → CleanAt p → CleanFor (area_left_for o p)
@@ -693,10 +718,11 @@ module _ (s : Scenario) (lawful : (p : ℕ) → p < s.count → IsLawfulPart (pa
     clean_peer y p SetEngagementBit v z ld ok mg n h = (h, tt)
     clean_peer y p ReadRecord v z ld ok mg n h = record_clean y p p.engage.reading v (λ e. subst (λ (k : ℕ). IsMagical k) (sym (ld.0 e)) mg) (ok refl) h
     clean_peer y p StoreEcho v z ld ok mg n h = (h, tt)
-    clean_peer y p StoreSecond v z ld ok mg n h = contact_clean y.stamp (record p { engage = record p.engage { second = true } }) h
+    clean_peer y p StoreSecond v z ld ok mg n h = contact_clean y.turn y.stamp (record p { engage = record p.engage { second = true } }) h
     clean_peer y p ClearEngagementBit v z ld ok mg n h = (h, tt)
     clean_peer y p (Prepare (PlaceWord x)) v z ld ok mg n h = (h, tt)
     clean_peer y p LookAtPage v z ld ok mg n h = let words = p.paging ++ v ∷ [] in either (eqb (length words) 5) _ _ (h, look_clean p.engage.echo (judged words) v) (h, tt)
+    clean_peer y p CheckBeat v z ld ok mg n h = (h, watch_clean y.part (p.watch.words ++ v ∷ []) p.watch)
     clean_peer y p ClearDeactivationBit v z ld ok mg n h = (h, tt)
     clean_peer y p TellPartner v z ld ok mg n h = (h, tt)
 
@@ -743,6 +769,7 @@ module _ (s : Scenario) (lawful : (p : ℕ) → p < s.count → IsLawfulPart (pa
     rights (ForPeer k StoreSecond) p q z h = low_store w a k 0 second_magic p q z (omega arith) h
     rights (ForPeer k ClearEngagementBit) p q z h = h
     rights (ForPeer k LookAtPage) p q z h = h
+    rights (ForPeer k CheckBeat) p q z h = h
     rights (ForPeer k ClearDeactivationBit) p q z h = h
     rights (ForPeer k TellPartner) p q z h = h
     rights (Own ReadEngaged) p q z h = h
@@ -753,6 +780,8 @@ module _ (s : Scenario) (lawful : (p : ℕ) → p < s.count → IsLawfulPart (pa
     rights (Own WriteStamp) p q z h = h
     rights (Own StoreMask) p q z h = h
     rights (Own TakeActivation) p q z h = h
+    rights (Own StoreBeat) p q z h = h
+    rights (Own StoreOffline) p q z h = h
 
     own_stands : (k : ℕ) → k < s.count → (k ≡ a → ⊥) → Stands (RightAt (w a) k) (Right (w k) a) (peer_of st k)
     own_stands k lk n = good.stands a k 0 (line_at k 0 lk n (omega arith))
@@ -794,6 +823,7 @@ module _ (s : Scenario) (lawful : (p : ℕ) → p < s.count → IsLawfulPart (pa
     shows (ForPeer k StoreSecond) can p q c l = magic_store w a k second_magic p q (λ e d n. moved_right k p q ((own_stands k can.1.0.low can.1.0.other).1 can.1.1.0) e d) (good.shown p q c l)
     shows (ForPeer k ClearEngagementBit) can p q c l = good.shown p q c l
     shows (ForPeer k LookAtPage) can p q c l = good.shown p q c l
+    shows (ForPeer k CheckBeat) can p q c l = good.shown p q c l
     shows (ForPeer k ClearDeactivationBit) can p q c l = good.shown p q c l
     shows (ForPeer k TellPartner) can p q c l = good.shown p q c l
     shows (Own ReadEngaged) can p q c l = good.shown p q c l
@@ -804,6 +834,8 @@ module _ (s : Scenario) (lawful : (p : ℕ) → p < s.count → IsLawfulPart (pa
     shows (Own WriteStamp) can p q c l = good.shown p q c l
     shows (Own StoreMask) can p q c l = good.shown p q c l
     shows (Own TakeActivation) can p q c l = good.shown p q c l
+    shows (Own StoreBeat) can p q c l = good.shown p q c l
+    shows (Own StoreOffline) can p q c l = good.shown p q c l
 
     -- what is known of the partner of a step, and of every other
     word_loaded : (k : ℕ) (m : PeerRule) → m ≡ ReadRecord → answer_word su st (ForPeer k m) w ≡ w k (Record a (read_place (peer_of st k).engage.reading))
@@ -842,6 +874,8 @@ module _ (s : Scenario) (lawful : (p : ℕ) → p < s.count → IsLawfulPart (pa
       by (Own WriteStamp) can h = h
       by (Own StoreMask) can h = h
       by (Own TakeActivation) can h = h
+      by (Own StoreBeat) can h = h
+      by (Own StoreOffline) can h = h
 
     right_read : (k : ℕ) (m : PeerRule) → Can su st (ForPeer k m) → m ≡ ReadRecord → is_wrong a (read_place (peer_numbered (mark_of su st (ForPeer k m)) (peer_of st k)).engage.reading) (answer_word su st (ForPeer k m) w) ≡ false
     right_read k m can e =
@@ -877,6 +911,7 @@ module _ (s : Scenario) (lawful : (p : ℕ) → p < s.count → IsLawfulPart (pa
     is_take StoreSecond = inr (λ e. absurd (cc))
     is_take ClearEngagementBit = inr (λ e. absurd (cc))
     is_take LookAtPage = inr (λ e. absurd (cc))
+    is_take CheckBeat = inr (λ e. absurd (cc))
     is_take ClearDeactivationBit = inr (λ e. absurd (cc))
     is_take TellPartner = inr (λ e. absurd (cc))
 
@@ -901,6 +936,8 @@ module _ (s : Scenario) (lawful : (p : ℕ) → p < s.count → IsLawfulPart (pa
     clean_rule (Own ZeroOffline) can q c l = old q c l
     clean_rule (Own StoreMask) can q c l = old q c l
     clean_rule (Own TakeActivation) can q c l = old q c l
+    clean_rule (Own StoreBeat) can q c l = old q c l
+    clean_rule (Own StoreOffline) can q c l = old q c l
 
     pub keeps_rule : (r : Rule) → Can su st r → Good s.count line mirror apart bound (does_rule su st r w) (at_one σ a (part_ruled su (σ a) r (Word (answer_word su st r w))))
     keeps_rule r can = moved s.count line mirror apart bound w (does_rule su st r w) σ a (part_ruled su (σ a) r (Word (answer_word su st r w))) good (met_rule s lawful w σ a la good.met r can) (λ p q c n o. away r p q c n o) (λ p q lp lq n o. away_six s lawful w σ a la good.met r p q lp lq n o) (λ q c l. ruled r can q c l) (λ p q c l. clean r can p q c l) (λ p q c l. magical r can p q c l) (λ q c l. clean_rule r can q c l) (λ p q z h. rights r p q z h) (λ q c l. stands_rule r can q c l) (λ p q c l n z. rights r p q z (shows r can p q c l n z))
@@ -944,13 +981,13 @@ module _ (s : Scenario) (lawful : (p : ℕ) → p < s.count → IsLawfulPart (pa
         let f = peer_answered (here_of su st k) (mark_of su st (ForPeer k m)) (peer_of st k) m Failed in
         let P : ℕ → Peer → Type 0 = λ j x. line a j c → Fine (left st.life x (six w a j)) (their_side j) (mine j c) (theirs j c) (with_notes j c (cond (eqb k j) [] []) ((σ a).books j c)) ((σ j).books a c) (link_at x.links c) (end_of (σ j).state a c) in
         peer_cases P st.peers k (with_reason f.reason f.local) q (good.met.all a la).partners can.1.0.low
-        (λ i. rw (eq-eqb k k refl) (failed_line k c (low a k c i).1 (σ k).state.life (peer_of (σ k).state a) (theirs k c) ((σ a).books k c) ((σ k).books a c) (end_of (σ k).state a c) st.life (peer_of st k) (six w a k) (mine k c) (mark_of su st (ForPeer k m)) (good.fine a k c i)))
+        (λ i. rw (eq-eqb k k refl) (failed_line k c (low a k c i).1 (σ k).state.life (peer_of (σ k).state a) (theirs k c) ((σ a).books k c) ((σ k).books a c) (end_of (σ k).state a c) (here_of su st k).turn st.life (peer_of st k) (six w a k) (mine k c) (mark_of su st (ForPeer k m)) (good.fine a k c i)))
         (λ o i. rw (ne_eqb k q (λ e. o (sym e))) (good.fine a q c i)) l
     failed_ruled (Own m) can q c l = good.fine a q c l
 
-    stopped_clean : (mark : Option CopyMark) (p : Peer) → CleanAt p → CleanAt (peer_failed mark p)
-    stopped_clean None p h = h
-    stopped_clean (Some mark) p h = h
+    stopped_clean : (turn : ℕ) (mark : Option CopyMark) (p : Peer) → CleanAt p → CleanAt (peer_failed turn mark p)
+    stopped_clean turn None p h = h
+    stopped_clean turn (Some mark) p h = h
 
     stop_clean : (mark : Option CopyMark) (p : Peer) → IsUnrefused (failed_reason mark p)
     stop_clean None p = tt
@@ -960,14 +997,14 @@ module _ (s : Scenario) (lawful : (p : ℕ) → p < s.count → IsLawfulPart (pa
     failed_clean (Link k d m) can q c l = clean_link k d m Failed can.1.0.peer.0 can.1.0.peer.1 can.1.0.peer.2 (error_clean (mark_of su st (Link k d m))) q c l
     failed_clean (ForPeer k m) can q c l =
         let mark = mark_of su st (ForPeer k m) in
-        at_peer CleanAt st.peers k _ q (λ d. with_clean (failed_reason mark (peer_of st k)) (peer_failed mark (peer_of st k)) (stopped_clean mark (peer_of st k) (old k 0 (line_at k 0 can.1.0.low can.1.0.other (omega arith)))) (stop_clean mark (peer_of st k))) (old q c l)
+        at_peer CleanAt st.peers k _ q (λ d. with_clean (failed_reason mark (peer_of st k)) (peer_failed (here_of su st k).turn mark (peer_of st k)) (stopped_clean (here_of su st k).turn mark (peer_of st k) (old k 0 (line_at k 0 can.1.0.low can.1.0.other (omega arith)))) (stop_clean mark (peer_of st k))) (old q c l)
     failed_clean (Own m) can q c l = old q c l
 
     failed_right : (r : Rule) → Can su st r → (q c : ℕ) → line a q c → Stands (RightAt (w a) q) (Right (w q) a) (peer_of (after_answer su st r Failed) q)
     failed_right (Link k d m) can q c l = at_peer (λ (p : Peer). Stands (RightAt (w a) q) (Right (w q) a) p) st.peers k _ q (λ e. subst (λ (j : ℕ). Stands (RightAt (w a) q) (Right (w q) a) (peer_of st j)) e (good.stands a q c l)) (good.stands a q c l)
     failed_right (ForPeer k m) can q c l =
         let mark = mark_of su st (ForPeer k m) in
-        at_peer (λ (p : Peer). Stands (RightAt (w a) q) (Right (w q) a) p) st.peers k _ q (λ e. failed_stands (RightAt (w a) q) (Right (w q) a) mark (peer_of st k) (subst (λ (j : ℕ). Stands (RightAt (w a) q) (Right (w q) a) (peer_of st j)) e (good.stands a q c l))) (good.stands a q c l)
+        at_peer (λ (p : Peer). Stands (RightAt (w a) q) (Right (w q) a) p) st.peers k _ q (λ e. failed_stands (RightAt (w a) q) (Right (w q) a) (here_of su st k).turn mark (peer_of st k) (subst (λ (j : ℕ). Stands (RightAt (w a) q) (Right (w q) a) (peer_of st j)) e (good.stands a q c l))) (good.stands a q c l)
     failed_right (Own m) can q c l = good.stands a q c l
 
     pub keeps_failed : (r : Rule) → Can su st r → Good s.count line mirror apart bound w (at_one σ a (part_ruled su (σ a) r Failed))

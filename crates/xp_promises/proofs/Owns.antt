@@ -10,8 +10,8 @@ use Rattle.xp_base.specs.Kinds.{kinds_in}
 use Rattle.xp_base.specs.History.{Act, Begun, Answered, Noticed}
 use Rattle.xp_script.specs.declared.command.Command.{Command}
 use Rattle.xp_protocol.specs.declared.rule.PeerRule.{PeerRule}
-use Rattle.xp_protocol.specs.declared.rule.PeerRule.TheVariants.{AskActivation, TakeFlags, CloseArea, ZeroMagic, ClearOldBit, Prepare, OpenArea, SetEngagementBit, ReadRecord, StoreEcho, StoreSecond, ClearEngagementBit, LookAtPage, ClearDeactivationBit, TellPartner}
-use Rattle.xp_protocol.specs.declared.rule.OwnRule.TheVariants.{ReadEngaged, TakeDeactivation, ReadStamp, ZeroMask, ZeroOffline, WriteStamp, StoreMask, TakeActivation}
+use Rattle.xp_protocol.specs.declared.rule.PeerRule.TheVariants.{AskActivation, TakeFlags, CloseArea, ZeroMagic, ClearOldBit, Prepare, OpenArea, SetEngagementBit, ReadRecord, StoreEcho, StoreSecond, ClearEngagementBit, LookAtPage, CheckBeat, ClearDeactivationBit, TellPartner}
+use Rattle.xp_protocol.specs.declared.rule.OwnRule.TheVariants.{ReadEngaged, TakeDeactivation, ReadStamp, ZeroMask, ZeroOffline, WriteStamp, StoreMask, TakeActivation, StoreBeat, StoreOffline}
 use Rattle.xp_protocol.specs.declared.rule.Rule.{Rule}
 use Rattle.xp_protocol.specs.declared.rule.Rule.TheVariants.{Link, Peer as ForPeer, Own}
 use Rattle.xp_script.specs.declared.part.ScenarioPart.{ScenarioPart}
@@ -58,10 +58,10 @@ module _ (rs : List Recorded) (q c : ℕ) (lc : c < 4) where
   cond_in false f g x y = y
 
   module _ (y : Here) (p : Peer) (n : length p.links ≡ 4) (old : Q (link_at p.links c) []) where
-    meets : (z : Peer) → z.links ≡ p.links → In (try_contact y.stamp z)
+    meets : (z : Peer) → z.links ≡ p.links → In (try_contact y.turn y.stamp z)
     meets z e =
         let now : Q (link_at z.links c) [] = subst (λ (ls : List End). Q (link_at ls c) []) (sym e) old in
-        cond_in (z.engage.second && (z.engage.shown && not (is_some z.contact))) (contact_made y.stamp z) (same_peer z)
+        cond_in (z.engage.second && (z.engage.shown && not (is_some z.contact))) (contact_made y.turn y.stamp z) (same_peer z)
         (links_framed Q (λ c e. link_joined z.both_new (contact_of y.stamp z.engage) e) (record z { contact = Some (contact_of y.stamp z.engage); engage = record z.engage { state = Active } }) c (ap length e ∙ n) lc (joins q c z.both_new (contact_of y.stamp z.engage) (link_at z.links c) rs now)) now
 
     read_in : (o : Option Reading) (w : ℕ) → In (record_read y p o w)
@@ -89,6 +89,7 @@ module _ (rs : List Recorded) (q c : ℕ) (lc : c < 4) where
     peered StoreEcho w = old
     peered ClearEngagementBit w = old
     peered LookAtPage w = cond_in (eqb (length (p.paging ++ w ∷ [])) 5) _ _ old old
+    peered CheckBeat w = old
     peered ClearDeactivationBit w = old
     peered TellPartner w = old
 
@@ -101,7 +102,7 @@ module _ (rs : List Recorded) (q c : ℕ) (lc : c < 4) where
       by true = old
       by false = old
 
-    failed : (mark : Option CopyMark) (reason : Option Reason) → In (record { local = peer_failed mark p; reason = reason; notes = λ c. [] })
+    failed : (mark : Option CopyMark) (reason : Option Reason) → In (record { local = peer_failed y.turn mark p; reason = reason; notes = λ c. [] })
     failed None reason = old
     failed (Some mark) reason = old
 
@@ -130,6 +131,8 @@ module _ (su : ScenarioPart) (law : IsLawfulPart su) (k : Part) (h : Owned su.co
   ruled (Own WriteStamp) (Word w) can q c lq lc = h.ends q c lq lc
   ruled (Own StoreMask) (Word w) can q c lq lc = h.ends q c lq lc
   ruled (Own TakeActivation) (Word w) can q c lq lc = h.ends q c lq lc
+  ruled (Own StoreBeat) (Word w) can q c lq lc = h.ends q c lq lc
+  ruled (Own StoreOffline) (Word w) can q c lq lc = h.ends q c lq lc
   ruled (Own m) Failed can q c lq lc = h.ends q c lq lc
 
   pub owned_rule : (r : Rule) (a : Answer) → Can su st r → Owned su.count (part_ruled su k r a)

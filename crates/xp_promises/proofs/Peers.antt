@@ -9,7 +9,7 @@ use Rattle.xp_base.specs.declared.reason.Reason.TheVariants.{OtherGoingDown, Bad
 use Rattle.xp_protocol.specs.declared.rule.AreaWord.{AreaWord}
 use Rattle.xp_protocol.specs.declared.rule.AreaWord.TheVariants.{SessionWord, EchoWord, PlaceWord, ArgsWord, FlagWord, CounterWord}
 use Rattle.xp_protocol.specs.declared.rule.PeerRule.{PeerRule}
-use Rattle.xp_protocol.specs.declared.rule.PeerRule.TheVariants.{AskActivation, TakeFlags, CloseArea, ZeroMagic, ClearOldBit, Prepare, OpenArea, SetEngagementBit, ReadRecord, StoreEcho, StoreSecond, ClearEngagementBit, LookAtPage, ClearDeactivationBit, TellPartner}
+use Rattle.xp_protocol.specs.declared.rule.PeerRule.TheVariants.{AskActivation, TakeFlags, CloseArea, ZeroMagic, ClearOldBit, Prepare, OpenArea, SetEngagementBit, ReadRecord, StoreEcho, StoreSecond, ClearEngagementBit, LookAtPage, CheckBeat, ClearDeactivationBit, TellPartner}
 use Rattle.xp_protocol.specs.Records.{Recorded}
 use Rattle.xp_protocol.specs.Effects.{Effect, Note, with_notes}
 use Rattle.xp_protocol.specs.State.{End, Life, Booting, Up, Halted, Off, Ready, Reading, Contact, Peer, link_at}
@@ -85,9 +85,9 @@ module _ (q c : ℕ) (lc : c < 4) (lb : Life) (r : Peer) (y : Area) (rs ss : Lis
   no_contact None h = refl
   no_contact (Some m) h = absurd (cc)
 
-  contact_line : (p : Peer) (z : Six) (x : Area) → length p.links ≡ 4 → p.engage.area ≡ Ready → p.engage.bit ≡ true → LineOf Up p z x [] → LineOf Up (try_contact z.stamp p).local z x ((try_contact z.stamp p).notes c)
-  contact_line p z x n ready inside h = by (p.engage.second && (p.engage.shown && not (is_some p.contact))) refl where
-    by : (b : Bool) → (p.engage.second && (p.engage.shown && not (is_some p.contact))) ≡ b → (let f = cond b (contact_made z.stamp p) (same_peer p) in LineOf Up f.local z x (f.notes c))
+  contact_line : (turn : ℕ) (p : Peer) (z : Six) (x : Area) → length p.links ≡ 4 → p.engage.area ≡ Ready → p.engage.bit ≡ true → LineOf Up p z x [] → LineOf Up (try_contact turn z.stamp p).local z x ((try_contact turn z.stamp p).notes c)
+  contact_line turn p z x n ready inside h = by (p.engage.second && (p.engage.shown && not (is_some p.contact))) refl where
+    by : (b : Bool) → (p.engage.second && (p.engage.shown && not (is_some p.contact))) ≡ b → (let f = cond b (contact_made turn z.stamp p) (same_peer p) in LineOf Up f.local z x (f.notes c))
     by false e = h
     by true e =
         let a = and_parts p.engage.second (p.engage.shown && not (is_some p.contact)) e in
@@ -96,7 +96,7 @@ module _ (q c : ℕ) (lc : c < 4) (lb : Life) (r : Peer) (y : Area) (rs ss : Lis
         let i = left Up p z in
         let j = right lb r z in
         let both = both_contact i j h.both o ready inside a.0 d.0 in
-        let Q : End → List Note → Type 0 = λ e ns. Fine (left Up (contact_made z.stamp p).local z) j x y (with_notes q c ns rs) ss e g in
+        let Q : End → List Note → Type 0 = λ e ns. Fine (left Up (contact_made turn z.stamp p).local z) j x y (with_notes q c ns rs) ss e g in
         links_framed Q (λ k e. link_joined p.both_new (contact_of z.stamp p.engage) e) (record p { contact = Some (contact_of z.stamp p.engage) }) c n lc (meets_line p.both_new i j x y rs ss (link_at p.links c) g h (record { ready = ready; alone = o }) both)
 
   left_line : (la : Life) (o : Option Reason) (p : Peer) (z : Six) (x : Area) → length p.links ≡ 4 → IsSome o → p.engage.area ≡ Ready → LineOf la p z x [] → (let f = area_left_for o p in LineOf la f.local (record z { magic = 0 }) x (f.notes c))
@@ -129,14 +129,14 @@ module _ (q c : ℕ) (lc : c < 4) (lb : Life) (r : Peer) (y : Area) (rs ss : Lis
     first true t = h
     first false t = second (is_magic v) t
 
-  last_line : (p : Peer) (z : Six) (x : Area) (o : Reading) → length p.links ≡ 4 → p.engage.reading ≡ Some o → o.done ≡ 7 → p.engage.area ≡ Ready → p.engage.bit ≡ true → LineOf Up p z x [] → (let f = last_read z.stamp p o in LineOf Up f.local z x (f.notes c))
-  last_line p z x o n i t ready inside h = by (has_shown z.stamp p.engage o) refl where
-    by : (b : Bool) → has_shown z.stamp p.engage o ≡ b → (let f = cond b (try_contact z.stamp (record p { engage = record p.engage { shown = true; reading = None } })) (same_peer (record p { engage = record p.engage { reading = None } })) in LineOf Up f.local z x (f.notes c))
+  last_line : (turn : ℕ) (p : Peer) (z : Six) (x : Area) (o : Reading) → length p.links ≡ 4 → p.engage.reading ≡ Some o → o.done ≡ 7 → p.engage.area ≡ Ready → p.engage.bit ≡ true → LineOf Up p z x [] → (let f = last_read turn z.stamp p o in LineOf Up f.local z x (f.notes c))
+  last_line turn p z x o n i t ready inside h = by (has_shown z.stamp p.engage o) refl where
+    by : (b : Bool) → has_shown z.stamp p.engage o ≡ b → (let f = cond b (try_contact turn z.stamp (record p { engage = record p.engage { shown = true; reading = None } })) (same_peer (record p { engage = record p.engage { reading = None } })) in LineOf Up f.local z x (f.notes c))
     by false k = slide_none Up p z x h
     by true k =
         let a = and_parts o.after_echo _ k in
         let d = and_parts (eqb o.magic second_magic) _ a.1 in
-        contact_line (record p { engage = record p.engage { shown = true; reading = None } }) z x n ready inside (slide_shown Up p z x o i t a.0 (eqb-true o.echo (session_word (session_now z.stamp p.engage)) d.1) h)
+        contact_line turn (record p { engage = record p.engage { shown = true; reading = None } }) z x n ready inside (slide_shown Up p z x o i t a.0 (eqb-true o.echo (session_word (session_now z.stamp p.engage)) d.1) h)
 
   record_line : (hh : Here) (p : Peer) (z : Six) (x : Area) (o : Option Reading) (v : ℕ) → length p.links ≡ 4 → p.engage.reading ≡ o → (read_place o ≡ 0 → v ≡ z.their_magic) → (read_place o ≡ 1 → v ≡ z.their_one) → (read_place o ≡ 2 → v ≡ z.their_two) → p.engage.area ≡ Ready → p.engage.bit ≡ true → LineOf Up p z x [] → (let f = record_read (record hh { stamp = z.stamp }) p o v in LineOf Up f.local z x (f.notes c))
   record_line hh p z x None v n i a b d ready inside h = magic_line Up p z x v (a refl) ready inside h
@@ -148,15 +148,15 @@ module _ (q c : ℕ) (lc : c < 4) (lb : Life) (r : Peer) (y : Area) (rs ss : Lis
     place true k m = slide_none Up p z x h
     place false k m = slide_next Up p z x o i (λ e. (let t = eq-eqb o.done 1 e in absurd (cc))) (λ e. (let t = eq-eqb o.done 2 e in absurd (cc))) h
 
-    seven : (t : Bool) → eqb o.done 7 ≡ t → eqb o.done 1 ≡ false → eqb o.done 2 ≡ false → P (cond t (last_read z.stamp p o) (place_read hh.part p o v))
-    seven true t k m = last_line p z x o n i (eqb-true o.done 7 t) ready inside h
+    seven : (t : Bool) → eqb o.done 7 ≡ t → eqb o.done 1 ≡ false → eqb o.done 2 ≡ false → P (cond t (last_read hh.turn z.stamp p o) (place_read hh.part p o v))
+    seven true t k m = last_line hh.turn p z x o n i (eqb-true o.done 7 t) ready inside h
     seven false t k m = place (is_wrong hh.part o.done v) k m
 
-    two : (t : Bool) → eqb o.done 2 ≡ t → eqb o.done 1 ≡ false → P (cond t (echo_read p o v) (cond (eqb o.done 7) (last_read z.stamp p o) (place_read hh.part p o v)))
+    two : (t : Bool) → eqb o.done 2 ≡ t → eqb o.done 1 ≡ false → P (cond t (echo_read p o v) (cond (eqb o.done 7) (last_read hh.turn z.stamp p o) (place_read hh.part p o v)))
     two true t k = let m = eqb-true o.done 2 t in subst (λ (j : ℕ). P (echo_read p o j)) (sym (d m)) (slide_two Up p z x o i m h)
     two false t k = seven (eqb o.done 7) refl k t
 
-    one : (t : Bool) → eqb o.done 1 ≡ t → P (cond t (session_read p o v) (cond (eqb o.done 2) (echo_read p o v) (cond (eqb o.done 7) (last_read z.stamp p o) (place_read hh.part p o v))))
+    one : (t : Bool) → eqb o.done 1 ≡ t → P (cond t (session_read p o v) (cond (eqb o.done 2) (echo_read p o v) (cond (eqb o.done 7) (last_read hh.turn z.stamp p o) (place_read hh.part p o v))))
     one true t = subst (λ (j : ℕ). P (session_read p o j)) (sym (b (eqb-true o.done 1 t))) (slide_read Up p z x o inside i h)
     one false t = two (eqb o.done 2) refl t
 
@@ -219,8 +219,8 @@ module _ (q c : ℕ) (lc : c < 4) (lb : Life) (r : Peer) (y : Area) (rs ss : Lis
       let i = h.both.own.fit.echo can.2 can.0 in
       let p' = record p { engage = record p.engage { second = true } } in
       let z' = record z { magic = second_magic } in
-      let P : Life → Area → ℕ → Type 0 = λ j k m. let f = try_contact m p' in LineOf j f.local z' k (f.notes c) in
-      subst (λ (k : Area). P la k hh.stamp) (sym e) (subst (λ (m : ℕ). P la x m) (sym (t u)) (subst (λ (j : Life). P j x z.stamp) (sym u) (contact_line p' z' x n can.0 i (subst (λ (j : Life). LineOf j p' z' x []) u (slide_seconds la p z x can.0 can.2 h)))))
+      let P : Life → Area → ℕ → Type 0 = λ j k m. let f = try_contact hh.turn m p' in LineOf j f.local z' k (f.notes c) in
+      subst (λ (k : Area). P la k hh.stamp) (sym e) (subst (λ (m : ℕ). P la x m) (sym (t u)) (subst (λ (j : Life). P j x z.stamp) (sym u) (contact_line hh.turn p' z' x n can.0 i (subst (λ (j : Life). LineOf j p' z' x []) u (slide_seconds la p z x can.0 can.2 h)))))
   peer_line hh la p z ClearEngagementBit v x x' n u t can l e h =
       let p' = (peer_effect hh p ClearEngagementBit v).local in
       let z' = record z { bit = 0 } in
@@ -235,6 +235,7 @@ module _ (q c : ℕ) (lc : c < 4) (lb : Life) (r : Peer) (y : Area) (rs ss : Lis
     page_line : (b : Bool) → (let f : Effect Peer (ℕ → List Note) = cond b (record { local = record p { look = judged (p.paging ++ v ∷ []); paging = []; both_new = both_new_by hh.version (judged (p.paging ++ v ∷ [])) p.both_new }; reason = look_reason p.engage.echo (judged (p.paging ++ v ∷ [])) v; notes = λ c. [] }) (record { local = record p { paging = p.paging ++ v ∷ [] }; reason = None; notes = λ c. [] }) in LineOf la f.local z x (f.notes c))
     page_line true = h
     page_line false = h
+  peer_line hh la p z CheckBeat v x x' n u t can l e h = subst (λ (k : Area). LineOf la (peer_effect hh p CheckBeat v).local z k []) (sym e) h
   peer_line hh la p z ClearDeactivationBit v x x' n u t can l e h = subst (λ (k : Area). LineOf la p z k []) (sym e) h
   peer_line hh la p z TellPartner v x x' n u t can l e h = subst (λ (k : Area). LineOf la p z k []) (sym e) h
 
@@ -262,10 +263,10 @@ module _ (q c : ℕ) (lc : c < 4) (lb : Life) (r : Peer) (y : Area) (rs ss : Lis
   pub told_line : (la : Life) (p : Peer) (z : Six) (v k : ℕ) (x : Area) → LineOf la p z x [] → LineOf la (deactivation_heard v k p).local z x []
   told_line la p z v k x h = cond_both (is_some p.engage.echo && is_flagged v k) (with_reason (Some (OtherGoingDown v)) p) p (λ (t : Peer). LineOf la t z x []) (λ e. h) (λ e. h)
 
-  pub failed_line : (la : Life) (p : Peer) (z : Six) (x : Area) (mark : Option CopyMark) → LineOf la p z x [] → LineOf la (peer_failed mark p) z x []
-  failed_line la p z x None h = h
-  failed_line la p z x (Some mark) h = by mark.kind where
-    by : (kind : CopyKind) → LineOf la (peer_failed (Some (record mark { kind = kind })) p) z x []
+  pub failed_line : (turn : ℕ) (la : Life) (p : Peer) (z : Six) (x : Area) (mark : Option CopyMark) → LineOf la p z x [] → LineOf la (peer_failed turn mark p) z x []
+  failed_line turn la p z x None h = h
+  failed_line turn la p z x (Some mark) h = by mark.kind where
+    by : (kind : CopyKind) → LineOf la (peer_failed turn (Some (record mark { kind = kind })) p) z x []
     by RecordCopy = slide_none la p z x h
     by kind = h
 

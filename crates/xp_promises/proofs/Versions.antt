@@ -8,8 +8,8 @@ use Rattle.xp_protocol.specs.declared.rule.AreaWord.TheVariants.{SessionWord, Ec
 use Rattle.xp_protocol.specs.declared.rule.RingRule.TheVariants.{ReadGet, WriteEntryWord, AcceptMessage}
 use Rattle.xp_protocol.specs.declared.rule.PullRule.TheVariants.{ReadCounters, ReadEntry}
 use Rattle.xp_protocol.specs.declared.rule.LinkRule.TheVariants.{Ring, Pull, Acknowledge, SetFlag, ZeroGet, ZeroPut, StoreArgument, ReadArgument}
-use Rattle.xp_protocol.specs.declared.rule.PeerRule.TheVariants.{AskActivation, TakeFlags, CloseArea, ZeroMagic, ClearOldBit, Prepare, OpenArea, SetEngagementBit, ReadRecord, StoreEcho, StoreSecond, ClearEngagementBit, LookAtPage, ClearDeactivationBit, TellPartner}
-use Rattle.xp_protocol.specs.declared.rule.OwnRule.TheVariants.{ReadEngaged, TakeDeactivation, ReadStamp, ZeroMask, ZeroOffline, WriteStamp, StoreMask, TakeActivation}
+use Rattle.xp_protocol.specs.declared.rule.PeerRule.TheVariants.{AskActivation, TakeFlags, CloseArea, ZeroMagic, ClearOldBit, Prepare, OpenArea, SetEngagementBit, ReadRecord, StoreEcho, StoreSecond, ClearEngagementBit, LookAtPage, CheckBeat, ClearDeactivationBit, TellPartner}
+use Rattle.xp_protocol.specs.declared.rule.OwnRule.TheVariants.{ReadEngaged, TakeDeactivation, ReadStamp, ZeroMask, ZeroOffline, WriteStamp, StoreMask, TakeActivation, StoreBeat, StoreOffline}
 use Rattle.xp_protocol.specs.declared.rule.Rule.{Rule}
 use Rattle.xp_protocol.specs.declared.rule.Rule.TheVariants.{Link, Peer as ForPeer, Own}
 use Rattle.xp_script.specs.declared.part.ScenarioPart.{ScenarioPart}
@@ -57,6 +57,7 @@ version_kept su st (ForPeer k StoreEcho) w q = refl
 version_kept su st (ForPeer k StoreSecond) w q = refl
 version_kept su st (ForPeer k ClearEngagementBit) w q = refl
 version_kept su st (ForPeer k LookAtPage) w q = refl
+version_kept su st (ForPeer k CheckBeat) w q = refl
 version_kept su st (ForPeer k ClearDeactivationBit) w q = refl
 version_kept su st (ForPeer k TellPartner) w q = refl
 version_kept su st (Own ReadEngaged) w q = refl
@@ -67,6 +68,8 @@ version_kept su st (Own ZeroOffline) w q = refl
 version_kept su st (Own WriteStamp) w q = refl
 version_kept su st (Own StoreMask) w q = refl
 version_kept su st (Own TakeActivation) w q = refl
+version_kept su st (Own StoreBeat) w q = refl
+version_kept su st (Own StoreOffline) w q = refl
 
 module _ (s : Scenario) (law : IsLawful s) where
   Stand : Words → (ℕ → Part) → Type 0

@@ -14,8 +14,8 @@ use Rattle.xp_protocol.specs.declared.rule.Argument.TheVariants.{Request, Reply,
 use Rattle.xp_protocol.specs.declared.rule.LinkRule.{LinkRule}
 use Rattle.xp_protocol.specs.declared.rule.LinkRule.TheVariants.{Ring, Pull, Acknowledge, SetFlag, ZeroGet, ZeroPut, StoreArgument, ReadArgument}
 use Rattle.xp_protocol.specs.declared.rule.PeerRule.{PeerRule}
-use Rattle.xp_protocol.specs.declared.rule.PeerRule.TheVariants.{AskActivation, TakeFlags, CloseArea, ZeroMagic, ClearOldBit, Prepare, OpenArea, SetEngagementBit, ReadRecord, StoreEcho, StoreSecond, ClearEngagementBit, LookAtPage, ClearDeactivationBit, TellPartner}
-use Rattle.xp_protocol.specs.declared.rule.OwnRule.TheVariants.{ReadEngaged, TakeDeactivation, WriteStamp, ReadStamp, ZeroMask, ZeroOffline, StoreMask, TakeActivation}
+use Rattle.xp_protocol.specs.declared.rule.PeerRule.TheVariants.{AskActivation, TakeFlags, CloseArea, ZeroMagic, ClearOldBit, Prepare, OpenArea, SetEngagementBit, ReadRecord, StoreEcho, StoreSecond, ClearEngagementBit, LookAtPage, CheckBeat, ClearDeactivationBit, TellPartner}
+use Rattle.xp_protocol.specs.declared.rule.OwnRule.TheVariants.{ReadEngaged, TakeDeactivation, WriteStamp, ReadStamp, ZeroMask, ZeroOffline, StoreMask, TakeActivation, StoreBeat, StoreOffline}
 use Rattle.xp_protocol.specs.declared.rule.Rule.{Rule}
 use Rattle.xp_protocol.specs.declared.rule.Rule.TheVariants.{Link, Peer as ForPeer, Own}
 use Rattle.xp_script.specs.declared.part.ScenarioPart.{ScenarioPart}
@@ -248,8 +248,8 @@ module _ (y : Here) (p : Peer) (c : ℕ) (lc : c < 4) (n : length p.links ≡ 4)
   abbrev LeftIn : Effect Peer (ℕ → List Note) → Type 0
   LeftIn h = Left (link_at h.local.links c) (h.notes c)
 
-  meets : (z : Peer) → LeftIn (try_contact y.stamp z)
-  meets z = cond_left (z.engage.second && (z.engage.shown && not (is_some z.contact))) c (contact_made y.stamp z) (same_peer z) (λ t. absurd (cc)) (λ t. absurd (cc))
+  meets : (z : Peer) → LeftIn (try_contact y.turn y.stamp z)
+  meets z = cond_left (z.engage.second && (z.engage.shown && not (is_some z.contact))) c (contact_made y.turn y.stamp z) (same_peer z) (λ t. absurd (cc)) (λ t. absurd (cc))
 
   read_left : (o : Option Reading) (w : ℕ) → LeftIn (record_read y p o w)
   read_left None w = cond_left (eqb w 0) c _ _ (λ t. absurd (cc)) (cond_left (is_magic w) c _ _ (λ t. absurd (cc)) (λ t. absurd (cc)))
@@ -276,6 +276,7 @@ module _ (y : Here) (p : Peer) (c : ℕ) (lc : c < 4) (n : length p.links ≡ 4)
   peered StoreEcho w = λ t. absurd (cc)
   peered ClearEngagementBit w = λ t. absurd (cc)
   peered LookAtPage w = cond_left (eqb (length (p.paging ++ w ∷ [])) 5) c _ _ (λ t. absurd (cc)) (λ t. absurd (cc))
+  peered CheckBeat w = λ t. absurd (cc)
   peered ClearDeactivationBit w = λ t. absurd (cc)
   peered TellPartner w = λ t. absurd (cc)
 
@@ -298,4 +299,6 @@ rule_withdraws s st (Own ZeroMask) (Word w) q c all low peer lq lc = λ t. absur
 rule_withdraws s st (Own ZeroOffline) (Word w) q c all low peer lq lc = λ t. absurd (cc)
 rule_withdraws s st (Own StoreMask) (Word w) q c all low peer lq lc = λ t. absurd (cc)
 rule_withdraws s st (Own TakeActivation) (Word w) q c all low peer lq lc = λ t. absurd (cc)
+rule_withdraws s st (Own StoreBeat) (Word w) q c all low peer lq lc = λ t. absurd (cc)
+rule_withdraws s st (Own StoreOffline) (Word w) q c all low peer lq lc = λ t. absurd (cc)
 rule_withdraws s st (Own m) Failed q c all low peer lq lc = λ t. absurd (cc)

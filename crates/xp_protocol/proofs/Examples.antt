@@ -1,15 +1,21 @@
 -- One partition by its commands and its planned moments, computed: what is due, what a restart begins again, and when it
 -- stops.
 use Rattle.std.proofs.Common.{◌≡◌, ℕ, true, false, [], ◌∷◌, refl, Some, None}
-use Rattle.xp_base.specs.declared.reason.Reason.TheVariants.{Unloading, Unregistered}
+use Rattle.xp_base.specs.declared.reason.Reason.TheVariants.{NoHeartbeat, Unloading, Unregistered}
+use Rattle.xp_base.specs.declared.step.Answer.TheVariants.{Word}
 use Rattle.xp_base.specs.History.{Turn, Begun, Answered}
-use Rattle.xp_script.specs.declared.command.Command.TheVariants.{Closed, Deactivate, Idle, Leave}
-use Rattle.xp_script.specs.declared.log.LogAnswer.TheVariants.{Closed as ClosedAnswered, Deactivate as DeactivateAnswered, Idle as IdleAnswered}
+use Rattle.xp_script.specs.declared.command.Command.TheVariants.{Closed, Deactivate, Idle, Leave, Offline, Online}
+use Rattle.xp_script.specs.declared.log.LogAnswer.TheVariants.{Closed as ClosedAnswered, Deactivate as DeactivateAnswered, Idle as IdleAnswered, Offline as OfflineAnswered, Online as OnlineAnswered}
+use Rattle.xp_script.specs.declared.log.OnlineAnswer.TheVariants.{Ok as OnlineOk, NotOffline}
 use Rattle.xp_script.specs.declared.part.Link.{Link}
 use Rattle.xp_script.specs.declared.part.ScenarioPart.{ScenarioPart}
 use Rattle.xp_script.specs.declared.setting.Moment.TheVariants.{Put, Turn as AtTurn}
 use Rattle.xp_protocol.specs.declared.contact.PartnerState.TheVariants.{Active}
-use Rattle.xp_protocol.specs.Acts.{after_act, all_gone, due, end_begun, end_due, unwanted, upcoming}
+use Rattle.xp_protocol.specs.declared.rule.OwnRule.TheVariants.{StoreOffline}
+use Rattle.xp_protocol.specs.declared.rule.Rule.TheVariants.{Own}
+use Rattle.xp_protocol.specs.Acts.{after_act, all_gone, due, end_begun, end_due, must_answer, unwanted, upcoming}
+use Rattle.xp_protocol.specs.Peering.{beat_reason}
+use Rattle.xp_protocol.specs.Rules.{after_answer, offline_asked}
 use Rattle.xp_protocol.specs.Linking.{channel_closed, link_finished}
 use Rattle.xp_protocol.specs.Runs.{start, after_turn, has_ended, moment}
 use Rattle.xp_protocol.specs.State.{State, End, Booting, Off, cold_peer, peer_of, warm_end, first_peers, idle_links, none_going}
@@ -137,3 +143,65 @@ closed = refl
 
 not_twice : end_due (end_begun (end_begun over (Closed 1 0)).local (Closed 1 0)).local (Closed 1 0) ≡ None
 not_twice = refl
+
+-- `online` is refused at an offline count of 0, and stores nothing
+abbrev silent : ScenarioPart
+silent = record part { scripts = (Online ∷ Offline ∷ Online ∷ []) ∷ [] }
+
+abbrev refused : State
+refused = after_act silent (start silent) Begun
+
+not_offline : due silent refused ≡ Some (OnlineAnswered NotOffline)
+not_offline = refl
+
+stores_nothing : offline_asked silent refused ≡ None
+stores_nothing = refl
+
+-- `offline` stores the count, raised, and is answered in the turn of the store
+abbrev offline_begun : State
+offline_begun = after_act silent (after_act silent refused Answered) Begun
+
+raises : offline_asked silent offline_begun ≡ Some 1
+raises = refl
+
+not_stored : due silent offline_begun ≡ None
+not_stored = refl
+
+abbrev went_offline : State
+went_offline = after_answer silent offline_begun (Own StoreOffline) (Word 0)
+
+offline_stored : due silent went_offline ≡ Some OfflineAnswered
+offline_stored = refl
+
+stores_once : offline_asked silent went_offline ≡ None
+stores_once = refl
+
+at_once : must_answer silent went_offline ≡ true
+at_once = refl
+
+-- then `online` lowers it
+abbrev online_begun : State
+online_begun = after_act silent (after_act silent went_offline Answered) Begun
+
+lowers : offline_asked silent online_begun ≡ Some 0
+lowers = refl
+
+online_stored : due silent (after_answer silent online_begun (Own StoreOffline) (Word 0)) ≡ Some (OnlineAnswered OnlineOk)
+online_stored = refl
+
+-- the first check of a contact finds a heartbeat in any count; a count that stands still is none, unless the partner is
+-- offline; and a mask without the own bit is none in any case
+first_heard : beat_reason 1 None (1 ∷ 2 ∷ 0 ∷ []) ≡ None
+first_heard = refl
+
+stood_still : beat_reason 1 (Some 1) (1 ∷ 2 ∷ 0 ∷ []) ≡ Some (NoHeartbeat 1 1 2)
+stood_still = refl
+
+moved_on : beat_reason 1 (Some 1) (2 ∷ 2 ∷ 0 ∷ []) ≡ None
+moved_on = refl
+
+is_offline : beat_reason 1 (Some 1) (1 ∷ 2 ∷ 1 ∷ []) ≡ None
+is_offline = refl
+
+not_for_it : beat_reason 1 None (7 ∷ 1 ∷ 1 ∷ []) ≡ Some (NoHeartbeat 0 7 1)
+not_for_it = refl

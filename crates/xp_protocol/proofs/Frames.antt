@@ -7,9 +7,9 @@ use Rattle.xp_base.specs.declared.step.Answer.{Answer}
 use Rattle.xp_base.specs.declared.step.Answer.TheVariants.{Word, Failed}
 use Rattle.xp_protocol.specs.declared.rule.LinkRule.{LinkRule}
 use Rattle.xp_protocol.specs.declared.rule.PeerRule.{PeerRule}
-use Rattle.xp_protocol.specs.declared.rule.PeerRule.TheVariants.{AskActivation, TakeFlags, CloseArea, ZeroMagic, ClearOldBit, Prepare, OpenArea, SetEngagementBit, ReadRecord, StoreEcho, StoreSecond, ClearEngagementBit, LookAtPage, ClearDeactivationBit, TellPartner}
+use Rattle.xp_protocol.specs.declared.rule.PeerRule.TheVariants.{AskActivation, TakeFlags, CloseArea, ZeroMagic, ClearOldBit, Prepare, OpenArea, SetEngagementBit, ReadRecord, StoreEcho, StoreSecond, ClearEngagementBit, LookAtPage, CheckBeat, ClearDeactivationBit, TellPartner}
 use Rattle.xp_protocol.specs.declared.rule.OwnRule.{OwnRule}
-use Rattle.xp_protocol.specs.declared.rule.OwnRule.TheVariants.{ReadEngaged, TakeDeactivation, ReadStamp, ZeroMask, ZeroOffline, WriteStamp, StoreMask, TakeActivation}
+use Rattle.xp_protocol.specs.declared.rule.OwnRule.TheVariants.{ReadEngaged, TakeDeactivation, ReadStamp, ZeroMask, ZeroOffline, WriteStamp, StoreMask, TakeActivation, StoreBeat, StoreOffline}
 use Rattle.xp_protocol.specs.declared.rule.Rule.{Rule}
 use Rattle.xp_protocol.specs.declared.rule.Rule.TheVariants.{Link, Peer as ForPeer, Own}
 use Rattle.xp_script.specs.declared.part.ScenarioPart.{ScenarioPart}
@@ -107,15 +107,15 @@ pub cond_peer : (P : Peer → Type 0) (b : Bool) (x y : Effect Peer (ℕ → Lis
 cond_peer P true x y a b = a
 cond_peer P false x y a b = b
 
-contact_all : (t : ℕ) (p : Peer) → length p.links ≡ 4 → length (try_contact t p).local.links ≡ 4
-contact_all t p n = cond_peer (λ (x : Peer). length x.links ≡ 4) (p.engage.second && (p.engage.shown && not (is_some p.contact))) (contact_made t p) (same_peer p) (length-each _ 0 p.links ∙ n) n
+contact_all : (n t : ℕ) (p : Peer) → length p.links ≡ 4 → length (try_contact n t p).local.links ≡ 4
+contact_all k t p n = cond_peer (λ (x : Peer). length x.links ≡ 4) (p.engage.second && (p.engage.shown && not (is_some p.contact))) (contact_made k t p) (same_peer p) (length-each _ 0 p.links ∙ n) n
 
 read_all : (y : Here) (p : Peer) (o : Option Reading) (w : ℕ) → length p.links ≡ 4 → length (record_read y p o w).local.links ≡ 4
 read_all y p None w n = cond_peer P (eqb w 0) _ _ n (cond_peer P (is_magic w) _ _ n n) where
   P : Peer → Type 0
   P x = length x.links ≡ 4
 read_all y p (Some r) w n =
-    cond_peer P (eqb r.done 1) _ _ n (cond_peer P (eqb r.done 2) _ _ n (cond_peer P (eqb r.done 7) _ _ (cond_peer P (has_shown y.stamp p.engage r) _ _ (contact_all y.stamp (record p { engage = record p.engage { shown = true; reading = None } }) n) n) (cond_peer P (is_wrong y.part r.done w) _ _ n n))) where
+    cond_peer P (eqb r.done 1) _ _ n (cond_peer P (eqb r.done 2) _ _ n (cond_peer P (eqb r.done 7) _ _ (cond_peer P (has_shown y.stamp p.engage r) _ _ (contact_all y.turn y.stamp (record p { engage = record p.engage { shown = true; reading = None } }) n) n) (cond_peer P (is_wrong y.part r.done w) _ _ n n))) where
       P : Peer → Type 0
       P x = length x.links ≡ 4
 
@@ -130,9 +130,10 @@ peer_all y p OpenArea w n = n
 peer_all y p SetEngagementBit w n = n
 peer_all y p ReadRecord w n = read_all y p p.engage.reading w n
 peer_all y p StoreEcho w n = n
-peer_all y p StoreSecond w n = contact_all y.stamp (record p { engage = record p.engage { second = true } }) n
+peer_all y p StoreSecond w n = contact_all y.turn y.stamp (record p { engage = record p.engage { second = true } }) n
 peer_all y p ClearEngagementBit w n = n
 peer_all y p LookAtPage w n = cond_peer (λ (x : Peer). length x.links ≡ 4) (eqb (length (p.paging ++ w ∷ [])) 5) _ _ n n
+peer_all y p CheckBeat w n = n
 peer_all y p ClearDeactivationBit w n = n
 peer_all y p TellPartner w n = n
 
@@ -144,20 +145,22 @@ own_all peers ZeroMask w h = h
 own_all peers ZeroOffline w h = h
 own_all peers StoreMask w h = h
 own_all peers TakeActivation w h = h
+own_all peers StoreBeat w h = h
+own_all peers StoreOffline w h = h
 own_all peers TakeDeactivation w h = each_all (λ q p. (deactivation_heard w q p).local) peers (λ q p n. cond_both (is_some p.engage.echo && is_flagged w q) (with_reason (Some (OtherGoingDown w)) p) p (λ x. length x.links ≡ 4) (λ e. n) (λ e. n)) h
 
 numbered_all : (mark : Option CopyMark) (p : Peer) → length p.links ≡ 4 → length (peer_numbered mark p).links ≡ 4
 numbered_all None p n = n
 numbered_all (Some mark) p n = n
 
-failed_all : (mark : Option CopyMark) (p : Peer) → length p.links ≡ 4 → length (peer_failed mark p).links ≡ 4
-failed_all None p n = n
-failed_all (Some mark) p n = n
+failed_all : (t : ℕ) (mark : Option CopyMark) (p : Peer) → length p.links ≡ 4 → length (peer_failed t mark p).links ≡ 4
+failed_all t None p n = n
+failed_all t (Some mark) p n = n
 
 pub rule_all : {n : ℕ} (s : ScenarioPart) (st : State) (r : Rule) (a : Answer) → AreAll n st.peers → AreAll n (after_answer s st r a).peers
 rule_all s st (Link k d m) a h = set_all st.peers k _ (length-set (peer_of st k).links d _ ∙ h.channels k) h
 rule_all s st (ForPeer k m) (Word w) h = set_all st.peers k _ (peer_all (here_of s st k) (peer_numbered (mark_of s st (ForPeer k m)) (peer_of st k)) m w (numbered_all (mark_of s st (ForPeer k m)) (peer_of st k) (h.channels k))) h
-rule_all s st (ForPeer k m) Failed h = set_all st.peers k _ (failed_all (mark_of s st (ForPeer k m)) (peer_of st k) (h.channels k)) h
+rule_all s st (ForPeer k m) Failed h = set_all st.peers k _ (failed_all (here_of s st k).turn (mark_of s st (ForPeer k m)) (peer_of st k) (h.channels k)) h
 rule_all s st (Own m) (Word w) h = own_all st.peers m w h
 rule_all s st (Own m) Failed h = h
 

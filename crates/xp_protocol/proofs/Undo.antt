@@ -22,21 +22,21 @@ use Rattle.xp_protocol.specs.declared.rule.AreaWord.TheVariants.{SessionWord, Ec
 use Rattle.xp_protocol.specs.declared.rule.RecordField.{RecordField}
 use Rattle.xp_protocol.specs.declared.rule.RecordField.TheVariants.{ArgsPlace, CountersPlace, FlagPlace, ChannelCount, Spare}
 use Rattle.xp_protocol.specs.declared.rule.AreaWord.{AreaWord}
-use Rattle.xp_protocol.specs.declared.rule.PeerRule.TheVariants.{AskActivation, TakeFlags, CloseArea, ZeroMagic, ClearOldBit, Prepare, OpenArea, SetEngagementBit, ReadRecord, StoreEcho, StoreSecond, ClearEngagementBit, LookAtPage, ClearDeactivationBit, TellPartner}
+use Rattle.xp_protocol.specs.declared.rule.PeerRule.TheVariants.{AskActivation, TakeFlags, CloseArea, ZeroMagic, ClearOldBit, Prepare, OpenArea, SetEngagementBit, ReadRecord, StoreEcho, StoreSecond, ClearEngagementBit, LookAtPage, CheckBeat, ClearDeactivationBit, TellPartner}
 use Rattle.xp_protocol.specs.declared.rule.OwnRule.{OwnRule}
-use Rattle.xp_protocol.specs.declared.rule.OwnRule.TheVariants.{ReadEngaged, TakeDeactivation, ReadStamp, ZeroMask, ZeroOffline, WriteStamp, StoreMask, TakeActivation}
+use Rattle.xp_protocol.specs.declared.rule.OwnRule.TheVariants.{ReadEngaged, TakeDeactivation, ReadStamp, ZeroMask, ZeroOffline, WriteStamp, StoreMask, TakeActivation, StoreBeat, StoreOffline}
 use Rattle.xp_protocol.specs.declared.rule.Rule.{Rule}
 use Rattle.xp_protocol.specs.declared.rule.Rule.TheVariants.{Link, Peer, Own}
 use Rattle.xp_script.specs.declared.part.ScenarioPart.{ScenarioPart}
 use Rattle.xp_protocol.specs.Parts.{IsLawfulPart}
 use Rattle.xp_protocol.specs.Pulling.{counters_word}
-use Rattle.xp_protocol.specs.State.{State, Boot, Life, Area, Off, Ready, Peer as PeerState, End, state_by, end_of, peer_of, link_of}
+use Rattle.xp_protocol.specs.State.{State, Life, Area, Off, Ready, Peer as PeerState, End, state_by, end_of, peer_of, link_of}
 use Rattle.xp_protocol.specs.Sending.{next_slot}
 use Rattle.xp_protocol.specs.Effects.{all_but}
 use Rattle.xp_protocol.specs.Linking.{link_can, link_row, argument_field}
-use Rattle.xp_protocol.specs.Peering.{IsAreaWord, area_place, area_word, field_number, page_word, Here, peer_can, peer_row, own_row}
-use Rattle.xp_protocol.specs.Rules.{Can, peer_life, own_life, row_of, partner_of, owner, mark_of, op_of, here_of}
-use Rattle.xp_protocol.specs.Decode.{rule_at, rule_of, flag_set, record_stored, echo_stored, counter_stored, put_stored, get_stored, and_at, bit_cleared, mask_stored, args_stored}
+use Rattle.xp_protocol.specs.Peering.{IsAreaWord, area_place, area_word, field_number, page_word, Here, Mine, peer_can, peer_row, own_row}
+use Rattle.xp_protocol.specs.Rules.{Can, peer_life, own_life, row_of, partner_of, owner, mark_of, op_of, here_of, mine_of}
+use Rattle.xp_protocol.specs.Decode.{rule_at, rule_of, flag_set, record_stored, echo_stored, counter_stored, put_stored, get_stored, and_at, bit_cleared, mask_stored, offline_stored, args_stored}
 
 -- a place of the layout is one of the words of a page
 pub index_low : (pl : Place) → IsWithin pl → index_of pl < PART_WORDS
@@ -131,10 +131,11 @@ peer_within y p t q x StoreEcho a b h = (b, omega arith)
 peer_within y p t q x StoreSecond a b h = (b, omega arith)
 peer_within y p t q x ClearEngagementBit a b h = omega arith
 peer_within y p t q x LookAtPage a b h = page_low (length x.paging)
+peer_within y p t q x CheckBeat a b h = let few = h.2 in omega (arith, few)
 peer_within y p t q x ClearDeactivationBit a b h = omega arith
 peer_within y p t q x TellPartner a b h = omega arith
 
-own_within : (n : Boot) (ps : List PeerState) (m : OwnRule) → IsWithin (own_row n ps m).place
+own_within : (n : Mine) (ps : List PeerState) (m : OwnRule) → IsWithin (own_row n ps m).place
 own_within n ps ReadEngaged = omega arith
 own_within n ps TakeDeactivation = omega arith
 own_within n ps WriteStamp = omega arith
@@ -143,6 +144,8 @@ own_within n ps ZeroMask = omega arith
 own_within n ps ZeroOffline = omega arith
 own_within n ps StoreMask = omega arith
 own_within n ps TakeActivation = omega arith
+own_within n ps StoreBeat = omega arith
+own_within n ps StoreOffline = omega arith
 
 -- the step is decoded
 complete_by : (o : Option Reason) (a x b c : Bool) → state_by o a (x && (b && c)) ≡ Connected → b ≡ true
@@ -223,18 +226,21 @@ peer_decodes s st q StoreEcho l u h = ap (λ (y : Area). echo_stored y q) h.0
 peer_decodes s st q StoreSecond l u h = λ i. record_stored (u i) (h.0 i) SECOND q 0
 peer_decodes s st q ClearEngagementBit l u h = ap (λ (x : Life). and_at x q) u
 peer_decodes s st q LookAtPage l u h = refl
+peer_decodes s st q CheckBeat l u h = refl
 peer_decodes s st q ClearDeactivationBit l u h = cleared_decodes q l
 peer_decodes s st q TellPartner l u h = refl
 
-own_decodes : (s : ScenarioPart) (st : State) (m : OwnRule) → st.life ≡ own_life m → (let r = own_row st.boot st.peers m in rule_at st r.own s.part r.kind r.place (mark_of s st (Own m)) ≡ Some (Own m))
+own_decodes : (s : ScenarioPart) (st : State) (m : OwnRule) → st.life ≡ own_life m → (let r = own_row (mine_of s st) st.peers m in rule_at st r.own s.part r.kind r.place (mark_of s st (Own m)) ≡ Some (Own m))
 own_decodes s st ReadEngaged u = refl
 own_decodes s st TakeDeactivation u = refl
 own_decodes s st WriteStamp u = refl
 own_decodes s st ReadStamp u = refl
 own_decodes s st ZeroMask u = ap (λ (x : Life). mask_stored x) u
-own_decodes s st ZeroOffline u = refl
+own_decodes s st ZeroOffline u = ap (λ (x : Life). offline_stored x) u
 own_decodes s st StoreMask u = ap (λ (x : Life). mask_stored x) u
 own_decodes s st TakeActivation u = refl
+own_decodes s st StoreBeat u = refl
+own_decodes s st StoreOffline u = ap (λ (x : Life). offline_stored x) u
 
 -- the same for all rules
 part_low : (s : ScenarioPart) → IsLawfulPart s → s.part < PARTS
@@ -246,9 +252,9 @@ peer_low s q l p = omega (arith, p, l.count)
 pub within : (s : ScenarioPart) (st : State) (r : Rule) → IsLawfulPart s → Can s st r → IsWithin (row_of s st r).place
 within s st (Link q c m) l h = link_within s.part q c (end_of st q c) m (part_low s l) (peer_low s q l h.1.0.peer.0) h.1.0.peer.2 h.1.1
 within s st (Peer q m) l h = peer_within (here_of s st q) s.part st.stamp q (peer_of st q) m (part_low s l) (peer_low s q l h.1.0.low) h.1.1
-within s st (Own m) l h = own_within st.boot st.peers m
+within s st (Own m) l h = own_within (mine_of s st) st.peers m
 
-own_row_own : (n : Boot) (ps : List PeerState) (m : OwnRule) → (own_row n ps m).own ≡ true
+own_row_own : (n : Mine) (ps : List PeerState) (m : OwnRule) → (own_row n ps m).own ≡ true
 own_row_own n ps ReadEngaged = refl
 own_row_own n ps TakeDeactivation = refl
 own_row_own n ps WriteStamp = refl
@@ -257,6 +263,8 @@ own_row_own n ps ZeroMask = refl
 own_row_own n ps ZeroOffline = refl
 own_row_own n ps StoreMask = refl
 own_row_own n ps TakeActivation = refl
+own_row_own n ps StoreBeat = refl
+own_row_own n ps StoreOffline = refl
 
 pub partner_low : (s : ScenarioPart) (st : State) (r : Rule) → IsLawfulPart s → Can s st r → partner_of s r < s.count
 partner_low s st (Link q c m) l h = h.1.0.peer.0
@@ -266,7 +274,7 @@ partner_low s st (Own m) l h = l.part
 other_of : (s : ScenarioPart) (st : State) (r : Rule) → Can s st r → (row_of s st r).own ≡ false → partner_of s r ≢ s.part
 other_of s st (Link q c m) h e = h.1.0.peer.1
 other_of s st (Peer q m) h e = h.1.0.other
-other_of s st (Own m) h e = let t = own_row_own st.boot st.peers m in absurd (cc)
+other_of s st (Own m) h e = let t = own_row_own (mine_of s st) st.peers m in absurd (cc)
 
 own_by : (s : ScenarioPart) (q : ℕ) (b : Bool) → (b ≡ false → q ≢ s.part) → eqb (cond b s.part q) s.part ≡ b
 own_by s q true d = eq-eqb s.part s.part refl

@@ -16,9 +16,10 @@ use Rattle.xp_base.specs.declared.link.LinkState.{LinkState}
 use Rattle.xp_base.specs.declared.link.LinkState.TheVariants.{Idle, Opening, Connected as ConnectedLink, Closing}
 use Rattle.xp_base.specs.History.{Act, Begun, Answered, Noticed, NoticeKind, Delivered, Ended}
 use Rattle.xp_script.specs.declared.command.Command.{Command}
-use Rattle.xp_script.specs.declared.command.Command.TheVariants.{Send, Take, Release, Drain, Register, Unregister, Connected, Closed, Deactivate, Activate, Leave, Idle}
+use Rattle.xp_script.specs.declared.command.Command.TheVariants.{Send, Take, Release, Drain, Register, Unregister, Connected, Closed, Deactivate, Activate, Leave, Idle, Offline, Online}
 use Rattle.xp_script.specs.declared.log.LogAnswer.{LogAnswer}
-use Rattle.xp_script.specs.declared.log.LogAnswer.TheVariants.{Send as SendAnswered, Take as TakeAnswered, Release as ReleaseAnswered, Drain as DrainAnswered, Register as RegisterAnswered, Unregister as UnregisterAnswered, Connected as ConnectedAnswered, Closed as ClosedAnswered, Deactivate as DeactivateAnswered, Activate as ActivateAnswered, Leave as LeaveAnswered, Idle as IdleAnswered}
+use Rattle.xp_script.specs.declared.log.LogAnswer.TheVariants.{Send as SendAnswered, Take as TakeAnswered, Release as ReleaseAnswered, Drain as DrainAnswered, Register as RegisterAnswered, Unregister as UnregisterAnswered, Connected as ConnectedAnswered, Closed as ClosedAnswered, Deactivate as DeactivateAnswered, Activate as ActivateAnswered, Leave as LeaveAnswered, Idle as IdleAnswered, Offline as OfflineAnswered, Online as OnlineAnswered}
+use Rattle.xp_script.specs.declared.log.OnlineAnswer.TheVariants.{Ok as OnlineOk, NotOffline}
 use Rattle.xp_base.specs.declared.answer.RegisterAnswer.{RegisterAnswer}
 use Rattle.xp_base.specs.declared.answer.RegisterAnswer.TheVariants.{Ok as RegisterOk, Already}
 use Rattle.xp_base.specs.declared.answer.UnregisterAnswer.{UnregisterAnswer}
@@ -298,14 +299,23 @@ all_gone part q (p ∷ peers) =
     (nat_eq q part || (not p.wanted && is_gone p.engage.area p.engage.state))
     && all_gone part (q + 1) peers
 
--- the answer of a command that names no end. Those of the network device and of the offline count
--- have none
+-- the command in progress has stored the offline count
+abbrev pub has_stored : State → Bool
+has_stored st = nat_eq st.beats.stored_for st.script.begun
+
+abbrev pub online_due : Bool → ℕ → Option LogAnswer
+online_due true count = Some (OnlineAnswered OnlineOk)
+online_due false count = if nat_eq count 0 then Some (OnlineAnswered NotOffline) else None
+
+-- the answer of a command that names no end. Those of the network device have none
 abbrev pub partition_due : ScenarioPart → State → Command → Option LogAnswer
 partition_due s st (Deactivate q) = Some DeactivateAnswered
 partition_due s st (Activate q) = Some ActivateAnswered
 partition_due s st Leave = if all_gone s.part 0 st.peers then Some LeaveAnswered else None
 partition_due s st (Idle turns) =
     if nat_lt st.clock.turns (st.script.since + turns) then None else Some IdleAnswered
+partition_due s st Offline = if has_stored st then Some OfflineAnswered else None
+partition_due s st Online = online_due (has_stored st) st.beats.offline
 partition_due s st x = None
 
 abbrev pub due_at : ScenarioPart → State → Command → Option EndName → Option LogAnswer
@@ -419,10 +429,13 @@ abbrev pub MayActs : ScenarioPart → State → List Act → Type 0
 MayActs s st [] = Unit {0}
 MayActs s st (a ∷ more) = MayAct s st a × MayActs s (after_act s st a) more
 
--- the answer of a message that was accepted has to be given in the same turn
-abbrev pub is_accepted : Option LogAnswer → Bool
-is_accepted (Some (SendAnswered (SendOk number))) = true
-is_accepted a = false
+-- the answer of a message that was accepted, and of an offline count that was stored, has to be
+-- given in the same turn
+abbrev pub is_stored : Option LogAnswer → Bool
+is_stored (Some (SendAnswered (SendOk number))) = true
+is_stored (Some OfflineAnswered) = true
+is_stored (Some (OnlineAnswered OnlineOk)) = true
+is_stored a = false
 
 abbrev pub must_answer : ScenarioPart → State → Bool
-must_answer s st = is_accepted (due s st)
+must_answer s st = is_stored (due s st)

@@ -1,13 +1,13 @@
 -- Which rule a step follows, in the state in which it is made: by whose word it is, what it does
 -- with it, where it stands and which copy it belongs to.
-use Rattle.xp_base.specs.declared.layout.TheConstants.{PARTS, CHANNELS, STAMP, MASK, OFFLINE, ACTIVATION, ENGAGED, DEACTIVATION}
+use Rattle.xp_base.specs.declared.layout.TheConstants.{PARTS, CHANNELS, STAMP, BEAT, MASK, OFFLINE, ACTIVATION, ENGAGED, DEACTIVATION}
 use Rattle.std.specs.Prelude.{ℕ, zero, suc, ◌+◌, Bool, true, false, if◌then◌else◌, ◌==◌, List, [], ◌∷◌, Option, Some, None, ◌-◌}
 use Rattle.xp_base.specs.declared.step.Op.{Op}
 use Rattle.xp_base.specs.declared.step.OpKind.{OpKind}
 use Rattle.xp_base.specs.declared.step.OpKind.TheVariants.{Load, Store, Or, And, Take}
 use Rattle.xp_base.specs.declared.step.CopyMark.{CopyMark}
 use Rattle.xp_base.specs.declared.step.CopyKind.{CopyKind}
-use Rattle.xp_base.specs.declared.step.CopyKind.TheVariants.{Get, Counters, Entries, Page as PageCopy, Record as RecordCopy, Args as ArgsCopy}
+use Rattle.xp_base.specs.declared.step.CopyKind.TheVariants.{Get, Counters, Entries, Page as PageCopy, Beat as BeatCopy, Record as RecordCopy, Args as ArgsCopy}
 use Rattle.xp_base.specs.declared.link.Kind.{Kind}
 use Rattle.xp_base.specs.declared.link.Kind.TheVariants.{CloseRequest, CloseReply, OpenRequest, OpenReply, OpenComplete, MsgRequest}
 use Rattle.xp_base.specs.Kinds.{flag}
@@ -18,8 +18,8 @@ use Rattle.xp_protocol.specs.declared.rule.PullRule.TheVariants.{ReadCounters, R
 use Rattle.xp_protocol.specs.declared.rule.LinkRule.TheVariants.{Ring, Pull, Acknowledge, SetFlag, ZeroGet, ZeroPut, StoreArgument, ReadArgument}
 use Rattle.xp_protocol.specs.declared.rule.AreaWord.TheVariants.{SessionWord, EchoWord, PlaceWord, ArgsWord, FlagWord, CounterWord}
 use Rattle.xp_protocol.specs.declared.rule.RecordField.TheVariants.{ArgsPlace, CountersPlace, FlagPlace, ChannelCount, Spare}
-use Rattle.xp_protocol.specs.declared.rule.PeerRule.TheVariants.{AskActivation, TakeFlags, CloseArea, ZeroMagic, ClearOldBit, Prepare, OpenArea, SetEngagementBit, ReadRecord, StoreEcho, StoreSecond, ClearEngagementBit, LookAtPage, ClearDeactivationBit, TellPartner}
-use Rattle.xp_protocol.specs.declared.rule.OwnRule.TheVariants.{ReadEngaged, TakeDeactivation, ReadStamp, ZeroMask, ZeroOffline, WriteStamp, StoreMask, TakeActivation}
+use Rattle.xp_protocol.specs.declared.rule.PeerRule.TheVariants.{AskActivation, TakeFlags, CloseArea, ZeroMagic, ClearOldBit, Prepare, OpenArea, SetEngagementBit, ReadRecord, StoreEcho, StoreSecond, ClearEngagementBit, LookAtPage, CheckBeat, ClearDeactivationBit, TellPartner}
+use Rattle.xp_protocol.specs.declared.rule.OwnRule.TheVariants.{ReadEngaged, TakeDeactivation, ReadStamp, ZeroMask, ZeroOffline, WriteStamp, StoreMask, TakeActivation, StoreBeat, StoreOffline}
 use Rattle.xp_protocol.specs.declared.rule.Argument.{Argument}
 use Rattle.xp_protocol.specs.declared.rule.Argument.TheVariants.{Request, Reply, Code}
 use Rattle.xp_protocol.specs.declared.rule.Rule.{Rule}
@@ -73,6 +73,10 @@ abbrev pub mask_stored : Life → Option Rule
 mask_stored Up = Some (Own StoreMask)
 mask_stored life = Some (Own ZeroMask)
 
+abbrev pub offline_stored : Life → Option Rule
+offline_stored Up = Some (Own StoreOffline)
+offline_stored life = Some (Own ZeroOffline)
+
 -- arguments by their words
 abbrev pub argument_at : (Argument → Option Rule) → ℕ → Option Rule
 argument_at make f =
@@ -94,7 +98,8 @@ own_store st v (Flag q) = Some (Peer q (Prepare FlagWord))
 own_store st v (Open o) =
     if o == STAMP then Some (Own WriteStamp)
     else (if o == MASK then mask_stored st.life
-    else (if o == OFFLINE then Some (Own ZeroOffline) else None))
+    else (if o == OFFLINE then offline_stored st.life
+    else (if o == BEAT then Some (Own StoreBeat) else None)))
 own_store st v pl = None
 
 -- an own word is taken, or loaded
@@ -141,6 +146,7 @@ load_at q Get (Counter p c f) = Some (Link q c (Ring ReadGet))
 load_at q Counters (Counter p c f) = Some (Link q c (Pull ReadCounters))
 load_at q Entries (Entry p c w) = Some (Link q c (Pull ReadEntry))
 load_at q PageCopy (Open o) = Some (Peer q LookAtPage)
+load_at q BeatCopy (Open o) = Some (Peer q CheckBeat)
 load_at q RecordCopy (Record p f) = Some (Peer q ReadRecord)
 load_at q k pl = None
 

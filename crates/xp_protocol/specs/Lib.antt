@@ -7,9 +7,9 @@ pub mod Releasing
 pub mod State
 pub mod Linking
 pub mod Peering
+pub mod Acts
 pub mod Rules
 pub mod Decode
-pub mod Acts
 pub mod Runs
 pub mod Logged
 pub mod Reached

@@ -1,13 +1,13 @@
 -- The steps for one partner, and those of the partition as a whole, each by three clauses: when it
 -- is permitted, its word, and what becomes of the partner and its ends, or of all partners.
-use Rattle.std.specs.Prelude.{◌≡◌, ℕ, ◌^◌, ◌+◌, ◌*◌, ◌<◌, ◌≤◌, ◌⊎◌, ◌||◌, bit_or, Bool, true, false, ◌&&◌, not, if◌then◌else◌, nat_eq, List, [], ◌∷◌, ◌++◌, length, slice_index, Option, Some, None, IsSome, is_some, nat_lt}
-use Rattle.xp_base.specs.declared.layout.TheConstants.{CHANNELS, RECORD_WORDS, ARGS_WORDS, COUNTER_WORDS, STAMP, MASK, OFFLINE, ACTIVATION, ENGAGED, DEACTIVATION, SIGNATURE, FIRST, SECOND, VARIABLES_AT, RECORDS_AT}
+use Rattle.std.specs.Prelude.{◌≡◌, ℕ, ◌^◌, ◌+◌, ◌*◌, ◌%◌, ◌<◌, ◌≤◌, ◌⊎◌, ◌||◌, bit_or, Bool, true, false, ◌&&◌, not, if◌then◌else◌, nat_eq, List, [], ◌∷◌, ◌++◌, length, slice_index, Option, Some, None, IsSome, is_some, nat_lt}
+use Rattle.xp_base.specs.declared.layout.TheConstants.{CHANNELS, RECORD_WORDS, ARGS_WORDS, COUNTER_WORDS, STAMP, BEAT, MASK, OFFLINE, ACTIVATION, ENGAGED, DEACTIVATION, SIGNATURE, FIRST, SECOND, VARIABLES_AT, RECORDS_AT}
 use Rattle.std.specs.Int.{bit_at}
 use Rattle.xp_base.specs.declared.reason.Reason.{Reason}
-use Rattle.xp_base.specs.declared.reason.Reason.TheVariants.{BadFlags, BadMagic, OtherGoingDown, CopyError, BadArgs, Reactivating, BadVersion as BadVersionRead}
+use Rattle.xp_base.specs.declared.reason.Reason.TheVariants.{BadFlags, BadMagic, OtherGoingDown, CopyError, NoHeartbeat, BadArgs, Reactivating, BadVersion as BadVersionRead}
 use Rattle.xp_base.specs.declared.session.Session.{Session}
 use Rattle.xp_base.specs.declared.step.CopyKind.{CopyKind}
-use Rattle.xp_base.specs.declared.step.CopyKind.TheVariants.{Page as PageCopy, Record as RecordCopy}
+use Rattle.xp_base.specs.declared.step.CopyKind.TheVariants.{Page as PageCopy, Beat as BeatCopy, Record as RecordCopy}
 use Rattle.xp_base.specs.declared.step.CopyMark.{CopyMark}
 use Rattle.xp_protocol.specs.declared.contact.Look.{Look}
 use Rattle.xp_protocol.specs.declared.contact.Look.TheVariants.{Unseen, Good, Absent, BadVersion}
@@ -20,12 +20,12 @@ use Rattle.xp_protocol.specs.declared.rule.RecordField.TheVariants.{ArgsPlace, C
 use Rattle.xp_base.specs.Kinds.{kinds_in, spare_in}
 use Rattle.xp_base.specs.Places.{Place, Open, Record, Flag, Args, Counter, index_of}
 use Rattle.xp_protocol.specs.declared.rule.PeerRule.{PeerRule}
-use Rattle.xp_protocol.specs.declared.rule.PeerRule.TheVariants.{AskActivation, TakeFlags, CloseArea, ZeroMagic, ClearOldBit, Prepare, OpenArea, SetEngagementBit, ReadRecord, StoreEcho, StoreSecond, ClearEngagementBit, LookAtPage, ClearDeactivationBit, TellPartner}
+use Rattle.xp_protocol.specs.declared.rule.PeerRule.TheVariants.{AskActivation, TakeFlags, CloseArea, ZeroMagic, ClearOldBit, Prepare, OpenArea, SetEngagementBit, ReadRecord, StoreEcho, StoreSecond, ClearEngagementBit, LookAtPage, CheckBeat, ClearDeactivationBit, TellPartner}
 use Rattle.xp_protocol.specs.declared.rule.OwnRule.{OwnRule}
-use Rattle.xp_protocol.specs.declared.rule.OwnRule.TheVariants.{ReadEngaged, TakeDeactivation, ReadStamp, ZeroMask, ZeroOffline, WriteStamp, StoreMask, TakeActivation}
+use Rattle.xp_protocol.specs.declared.rule.OwnRule.TheVariants.{ReadEngaged, TakeDeactivation, ReadStamp, ZeroMask, ZeroOffline, WriteStamp, StoreMask, TakeActivation, StoreBeat, StoreOffline}
 use Rattle.xp_protocol.specs.Effects.{Effect, first_reason, Row, store, load_own, take_own, set_theirs, clear_theirs, clear_own, load_copy, Note}
 use Rattle.xp_protocol.specs.Pulling.{is_copying}
-use Rattle.xp_protocol.specs.State.{End, Boot, no_boot, PeerGoing, Area, Old, Off, Ready, Leaving, Engage, Reading, Contact, Peer, cold_peer, booted_engage, link_at, peer_at, each, any_kind, are_new}
+use Rattle.xp_protocol.specs.State.{End, Boot, no_boot, Beats, PeerGoing, Watch, new_watch, Area, Old, Off, Ready, Leaving, Engage, Reading, Contact, Peer, cold_peer, booted_engage, link_at, peer_at, each, any_kind, are_new}
 use Rattle.xp_protocol.specs.Linking.{flags_got, link_down, link_finished, link_joined, booted_end}
 
 -- each end of a partner changes, by its channel
@@ -43,6 +43,10 @@ all_links f p =
       notes = λ c. (f c (link_at p.links c)).notes;
     }
 
+abbrev pub or_zero : Option ℕ → ℕ
+or_zero None = 0
+or_zero (Some v) = v
+
 abbrev pub is_ready : Area → Bool
 is_ready Old = false
 is_ready Off = false
@@ -59,13 +63,15 @@ with_reason reason p = record p {
 }
 
 -- what a step for a partner reads besides: the own number and version, the present turn, for how
--- many turns backing off lasts, whether the mask that was stored has the partner's bit, the stamp
--- of the boot, and in a boot whether the last one was read
+-- many turns backing off lasts, how many lie between two checks of a heartbeat, 0 for no checks,
+-- whether the mask that was stored has the partner's bit, the stamp of the boot, and in a boot
+-- whether the last one was read
 pub record Here : Type 0 where
   pub part : ℕ
   pub version : ℕ
   pub turn : ℕ
   pub wait : ℕ
+  pub check : ℕ
   pub masked : Bool
   pub stamp : ℕ
   pub read : Bool
@@ -112,7 +118,7 @@ for_partner f = record f { reason = end_reason f.local.flags_seen f.reason }
 abbrev pub flags_taken : ℕ → Peer → Effect Peer (ℕ → List Note)
 flags_taken w p = for_partner (all_links (λ c e. flags_got (kinds_in w c) e) (with_flags w p))
 
--- the connections to a partner go down
+-- the connections to a partner go down, and a check of its heartbeat is over
 abbrev pub left_engage : Engage → Engage
 left_engage x =
     record x {
@@ -128,6 +134,7 @@ area_left reason p =
     all_links (λ c e. link_down reason e) (record p {
       contact = None;
       engage = left_engage p.engage;
+      watch = record p.watch { words = [] };
     })
 
 abbrev pub area_left_for : Option Reason → Peer → Effect Peer (ℕ → List Note)
@@ -277,12 +284,69 @@ abbrev pub is_good : Look → Bool
 is_good (Good version) = true
 is_good look = false
 
+-- a check of a partner's heartbeat: its count, its mask and its offline count, in their order
+abbrev pub CHECK_WORDS : ℕ
+CHECK_WORDS = 3
+
+-- a check begins so many turns after the last one, or after contact; one that goes on is made to
+-- its end
+abbrev pub IsCheckDue : ℕ → ℕ → Watch → Type 0
+IsCheckDue check turn x = x.words ≡ [] → x.since + check ≤ turn
+
+-- the heartbeat isn't for the own partition, or the count is that of the last check though the
+-- partner isn't offline
+abbrev pub is_count : ℕ → Option ℕ → Bool
+is_count count None = false
+is_count count (Some last) = nat_eq last count
+
+abbrev pub is_still : ℕ → Option ℕ → List ℕ → Bool
+is_still part last words =
+    not (is_flagged (slice_index words 1) part)
+    || (nat_eq (slice_index words 2) 0 && is_count (slice_index words 0) last)
+
+abbrev pub beat_reason : ℕ → Option ℕ → List ℕ → Option Reason
+beat_reason part last words =
+    if is_still part last words
+    then Some (NoHeartbeat (or_zero last) (slice_index words 0) (slice_index words 1)) else None
+
+-- what a check makes of the watch, of its words so far: the count of a check that found a heartbeat
+-- is what the next one compares with
+abbrev pub last_after : Option Reason → ℕ → Option ℕ → Option ℕ
+last_after None count last = Some count
+last_after (Some reason) count last = last
+
+abbrev pub check_over : ℕ → ℕ → List ℕ → Watch → Watch
+check_over part turn words x =
+    record x {
+      since = turn;
+      last = last_after (beat_reason part x.last words) (slice_index words 0) x.last;
+      words = [];
+    }
+
+abbrev pub watch_read : ℕ → ℕ → List ℕ → Watch → Watch
+watch_read part turn words x =
+    if nat_eq (length words) CHECK_WORDS then check_over part turn words x
+    else record x { words = words }
+
+abbrev pub watch_reason : ℕ → List ℕ → Watch → Option Reason
+watch_reason part words x =
+    if nat_eq (length words) CHECK_WORDS then beat_reason part x.last words else None
+
+abbrev pub beat_read : Here → List ℕ → Peer → Effect Peer (ℕ → List Note)
+beat_read x words p =
+    record {
+      local = record p { watch = watch_read x.part x.turn words p.watch };
+      reason = watch_reason x.part words p.watch;
+      notes = λ c. [];
+    }
+
 -- so many turns have passed since the own bit was cleared last
 abbrev pub HasWaited : ℕ → ℕ → Option ℕ → Type 0
 HasWaited wait turn None = Unit {0}
 HasWaited wait turn (Some cleared) = cleared + wait ≤ turn
 
--- a copy of the partner's words goes on, of any kind
+-- a copy of the partner's words goes on, of any kind but that of its heartbeat, which is over with
+-- the contact
 abbrev pub is_copied : End → Bool
 is_copied e = is_copying e.sides.pull
 
@@ -293,26 +357,24 @@ any_copied (e ∷ es) = is_copied e || any_copied es
 abbrev pub copies_go_on : Peer → Bool
 copies_go_on p = is_some p.engage.reading || (nat_lt 0 (length p.paging) || any_copied p.links)
 
--- contact is made where the own second magic is stored and the partner has shown its own
-abbrev pub or_zero : Option ℕ → ℕ
-or_zero None = 0
-or_zero (Some v) = v
-
+-- contact is made where the own second magic is stored and the partner has shown its own; its
+-- heartbeat is watched from then on
 abbrev pub contact_of : ℕ → Engage → Contact
 contact_of stamp x = record { own = session_now stamp x; theirs = session_of (or_zero x.echo) }
 
-abbrev pub contact_made : ℕ → Peer → Effect Peer (ℕ → List Note)
-contact_made stamp p =
+abbrev pub contact_made : ℕ → ℕ → Peer → Effect Peer (ℕ → List Note)
+contact_made turn stamp p =
     all_links (λ c e. link_joined p.both_new (contact_of stamp p.engage) e)
     (record p {
       contact = Some (contact_of stamp p.engage);
       engage = record p.engage { state = Active };
+      watch = new_watch turn;
     })
 
-abbrev pub try_contact : ℕ → Peer → Effect Peer (ℕ → List Note)
-try_contact stamp p =
-    if p.engage.second && (p.engage.shown && not (is_some p.contact)) then contact_made stamp p
-    else same_peer p
+abbrev pub try_contact : ℕ → ℕ → Peer → Effect Peer (ℕ → List Note)
+try_contact turn stamp p =
+    if p.engage.second && (p.engage.shown && not (is_some p.contact))
+    then contact_made turn stamp p else same_peer p
 
 -- the partner's record: its magic, its session, its echo, the places of its words and the number of
 -- its channels
@@ -397,10 +459,10 @@ has_shown stamp x r =
     r.after_echo && (nat_eq r.magic second_magic
     && nat_eq r.echo (session_word (session_now stamp x)))
 
-abbrev pub last_read : ℕ → Peer → Reading → Effect Peer (ℕ → List Note)
-last_read stamp p r =
+abbrev pub last_read : ℕ → ℕ → Peer → Reading → Effect Peer (ℕ → List Note)
+last_read turn stamp p r =
     if has_shown stamp p.engage r
-    then try_contact stamp (record p {
+    then try_contact turn stamp (record p {
       engage = record p.engage {
         shown = true;
         reading = None;
@@ -413,11 +475,12 @@ record_read x p None w = magic_read p w
 record_read x p (Some r) w =
     if nat_eq r.done 1 then session_read p r w
     else (if nat_eq r.done 2 then echo_read p r w
-    else (if nat_eq r.done 7 then last_read x.stamp p r else place_read x.part p r w))
+    else (if nat_eq r.done 7 then last_read x.turn x.stamp p r else place_read x.part p r w))
 
 -- a copy goes on under its number, until a load of it fails
 abbrev pub numbers_after : CopyKind → ℕ → PeerGoing → PeerGoing
 numbers_after PageCopy number x = record x { pages = number }
+numbers_after BeatCopy number x = record x { beats = number }
 numbers_after RecordCopy number x = record x { records = number }
 numbers_after kind number x = x
 
@@ -432,16 +495,22 @@ abbrev pub paging_failed : CopyKind → List ℕ → List ℕ
 paging_failed PageCopy words = []
 paging_failed kind words = words
 
-abbrev pub copy_ended : CopyKind → Peer → Peer
-copy_ended kind p =
+-- a check that fails counts as the last one
+abbrev pub watch_failed : ℕ → CopyKind → Watch → Watch
+watch_failed turn BeatCopy x = record x { since = turn; words = [] }
+watch_failed turn kind x = x
+
+abbrev pub copy_ended : ℕ → CopyKind → Peer → Peer
+copy_ended turn kind p =
     record p {
       paging = paging_failed kind p.paging;
       engage = record p.engage { reading = reading_failed kind p.engage.reading };
+      watch = watch_failed turn kind p.watch;
     }
 
-abbrev pub peer_failed : Option CopyMark → Peer → Peer
-peer_failed None p = p
-peer_failed (Some mark) p = copy_ended mark.kind p
+abbrev pub peer_failed : ℕ → Option CopyMark → Peer → Peer
+peer_failed turn None p = p
+peer_failed turn (Some mark) p = copy_ended turn mark.kind p
 
 -- a look that fails deactivates no partner whose session doesn't stand as the own echo
 abbrev pub fails_for : CopyKind → Option ℕ → Bool
@@ -485,6 +554,9 @@ peer_can x p ClearEngagementBit =
     × (((p.engage.area ≡ Ready) × (p.engage.reason ≡ None) × (p.engage.echo ≡ None)
     × (p.engage.back_off ≡ true)) ⊎ ((p.engage.area ≡ Leaving) × (p.engage.told ≡ true)))
 peer_can x p LookAtPage = length p.paging < 5
+peer_can x p CheckBeat =
+    (p.engage.state ≡ Active) × (0 < x.check) × (length p.watch.words < CHECK_WORDS)
+    × IsCheckDue x.check x.turn p.watch
 peer_can x p ClearDeactivationBit = p.engage.area ≡ Off
 peer_can x p TellPartner = (p.engage.area ≡ Leaving) × (p.engage.bit ≡ true)
 
@@ -504,6 +576,8 @@ peer_row part stamp q p StoreSecond = store (Record q 0) second_magic
 peer_row part stamp q p ClearEngagementBit = clear_theirs (Open ENGAGED) part
 peer_row part stamp q p LookAtPage =
     load_copy (Open (page_word (length p.paging))) PageCopy (length p.paging)
+peer_row part stamp q p CheckBeat =
+    load_copy (Open (BEAT + length p.watch.words)) BeatCopy (length p.watch.words)
 peer_row part stamp q p ClearDeactivationBit = clear_own (Open DEACTIVATION) q
 peer_row part stamp q p TellPartner = set_theirs (Open DEACTIVATION) (2 ^ part)
 
@@ -541,7 +615,7 @@ peer_effect x p ReadRecord w = record_read x p p.engage.reading w
 peer_effect x p StoreEcho w =
     same_peer (record p { engage = record p.engage { echo = p.engage.read; back_off = false } })
 peer_effect x p StoreSecond w =
-    try_contact x.stamp (record p { engage = record p.engage { second = true } })
+    try_contact x.turn x.stamp (record p { engage = record p.engage { second = true } })
 peer_effect x p ClearEngagementBit w =
     same_peer (record p {
       engage = record p.engage {
@@ -554,6 +628,7 @@ peer_effect x p ClearEngagementBit w =
       };
     })
 peer_effect x p LookAtPage w = page_read x.version (p.paging ++ w ∷ []) w p
+peer_effect x p CheckBeat w = beat_read x (p.watch.words ++ w ∷ []) p
 peer_effect x p ClearDeactivationBit w =
     same_peer (record p { engage = record p.engage { deactivation_cleared = true } })
 peer_effect x p TellPartner w = same_peer (record p { engage = record p.engage { told = true } })
@@ -610,26 +685,43 @@ deactivation_heard w q p =
     same_peer (if is_some p.engage.echo && is_flagged w q
     then with_reason (Some (OtherGoingDown w)) p else p)
 
-abbrev pub own_can : ℕ → ℕ → Boot → List Peer → OwnRule → Type 0
-own_can part count b peers ReadStamp = b.read ≡ None
-own_can part count b peers ZeroMask = IsSome b.read
-own_can part count b peers ZeroOffline = IsSome b.read
-own_can part count b peers WriteStamp =
-    IsSome b.read × (b.mask ≡ true) × (b.offline ≡ true)
+-- what a step of the partition as a whole reads besides its partners: its boot, its heartbeat, and
+-- of the script how many commands were begun, and what the one in progress makes of the offline
+-- count, where it still has to store it
+pub record Mine : Type 0 where
+  pub boot : Boot
+  pub beats : Beats
+  pub begun : ℕ
+  pub offline : Option ℕ
+
+-- the next heartbeat, by a count of 64 bits
+abbrev pub next_beat : ℕ → ℕ
+next_beat count = (count + 1) % 2 ^ 64
+
+abbrev pub own_can : ℕ → ℕ → Mine → List Peer → OwnRule → Type 0
+own_can part count x peers ReadStamp = x.boot.read ≡ None
+own_can part count x peers ZeroMask = IsSome x.boot.read
+own_can part count x peers ZeroOffline = IsSome x.boot.read
+own_can part count x peers WriteStamp =
+    IsSome x.boot.read × (x.boot.mask ≡ true) × (x.boot.offline ≡ true)
     × ((q : ℕ) → q < count → (q ≡ part → ⊥) → ((peer_at peers q).engage.zeroed ≡ true)
     × ((peer_at peers q).engage.cleared ≡ true))
-own_can part count b peers m = Unit {0}
+own_can part count x peers StoreBeat = x.beats.offline ≡ 0
+own_can part count x peers StoreOffline = IsSome x.offline
+own_can part count x peers m = Unit {0}
 
 -- the stamp is the one that was read, plus 1
-abbrev pub own_row : Boot → List Peer → OwnRule → Row
-own_row b peers ReadEngaged = load_own (Open ENGAGED)
-own_row b peers TakeDeactivation = take_own (Open DEACTIVATION)
-own_row b peers ReadStamp = load_own (Open STAMP)
-own_row b peers ZeroMask = store (Open MASK) 0
-own_row b peers ZeroOffline = store (Open OFFLINE) 0
-own_row b peers WriteStamp = store (Open STAMP) (or_zero b.read + 1)
-own_row b peers StoreMask = store (Open MASK) (mask_from 0 peers)
-own_row b peers TakeActivation = take_own (Open ACTIVATION)
+abbrev pub own_row : Mine → List Peer → OwnRule → Row
+own_row x peers ReadEngaged = load_own (Open ENGAGED)
+own_row x peers TakeDeactivation = take_own (Open DEACTIVATION)
+own_row x peers ReadStamp = load_own (Open STAMP)
+own_row x peers ZeroMask = store (Open MASK) 0
+own_row x peers ZeroOffline = store (Open OFFLINE) 0
+own_row x peers WriteStamp = store (Open STAMP) (or_zero x.boot.read + 1)
+own_row x peers StoreMask = store (Open MASK) (mask_from 0 peers)
+own_row x peers TakeActivation = take_own (Open ACTIVATION)
+own_row x peers StoreBeat = store (Open BEAT) (next_beat x.beats.count)
+own_row x peers StoreOffline = store (Open OFFLINE) (or_zero x.offline)
 
 abbrev pub boot_after : Boot → OwnRule → ℕ → Boot
 boot_after b ReadStamp w = record b { read = Some w }
@@ -642,7 +734,7 @@ abbrev pub stamp_after : Boot → OwnRule → ℕ → ℕ
 stamp_after b WriteStamp stamp = or_zero b.read + 1
 stamp_after b m stamp = stamp
 
--- what becomes of the partners, and of the mask
+-- what becomes of the partners, and of the own heartbeat
 abbrev pub none_changed : List Peer → Effect (List Peer) (ℕ → ℕ → List Note)
 none_changed peers = record { local = peers; reason = None; notes = λ q c. [] }
 
@@ -651,6 +743,8 @@ own_effect peers ReadEngaged w = all_peers (peer_read w) peers
 own_effect peers TakeDeactivation w = all_peers (deactivation_heard w) peers
 own_effect peers m w = none_changed peers
 
-abbrev pub mask_after : List Peer → OwnRule → ℕ → ℕ
-mask_after peers StoreMask mask = mask_from 0 peers
-mask_after peers m mask = mask
+abbrev pub beats_by : Mine → List Peer → OwnRule → Beats
+beats_by x peers StoreMask = record x.beats { mask = mask_from 0 peers }
+beats_by x peers StoreBeat = record x.beats { count = next_beat x.beats.count }
+beats_by x peers StoreOffline = record x.beats { offline = or_zero x.offline; stored_for = x.begun }
+beats_by x peers m = x.beats

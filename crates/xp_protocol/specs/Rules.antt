@@ -2,10 +2,10 @@
 -- its end, its partner or its partition: when it is permitted, its word, what becomes of what it
 -- changes. Here is what is the same for all.
 use Rattle.xp_base.specs.Windows.{back_off_of}
-use Rattle.std.specs.Prelude.{◌≡◌, ℕ, ◌+◌, ◌<◌, if◌then◌else◌, nat_eq, nat_lt, is_some, List, [], slice_set, slice_index_or, Option, Some, None, IsSome}
+use Rattle.std.specs.Prelude.{◌≡◌, ℕ, ◌+◌, ◌-◌, ◌<◌, not, ◌&&◌, if◌then◌else◌, nat_eq, nat_lt, is_some, List, [], slice_set, slice_index_or, Option, Some, None, IsSome}
 use Rattle.xp_base.specs.declared.step.Op.{Op}
 use Rattle.xp_base.specs.declared.step.CopyKind.{CopyKind}
-use Rattle.xp_base.specs.declared.step.CopyKind.TheVariants.{Counters, Get, Entries, Page as PageCopy, Record as RecordCopy, Args}
+use Rattle.xp_base.specs.declared.step.CopyKind.TheVariants.{Counters, Get, Entries, Page as PageCopy, Beat as BeatCopy, Record as RecordCopy, Args}
 use Rattle.xp_base.specs.declared.step.CopyMark.{CopyMark}
 use Rattle.xp_base.specs.declared.step.Wanted.{Wanted}
 use Rattle.xp_base.specs.declared.step.Answer.{Answer}
@@ -23,11 +23,14 @@ use Rattle.xp_protocol.specs.declared.rule.OwnRule.{OwnRule}
 use Rattle.xp_protocol.specs.declared.rule.Rule.{Rule}
 use Rattle.xp_protocol.specs.declared.rule.Rule.TheVariants.{Link, Peer as ForPeer, Own}
 use Rattle.xp_script.specs.declared.part.ScenarioPart.{ScenarioPart}
+use Rattle.xp_script.specs.declared.command.Command.{Command}
+use Rattle.xp_script.specs.declared.command.Command.TheVariants.{Offline, Online}
 use Rattle.xp_protocol.specs.Parts.{IsEndOf}
+use Rattle.xp_protocol.specs.Acts.{current, has_stored}
 use Rattle.xp_protocol.specs.Effects.{Effect, Copied, Row, Note}
 use Rattle.xp_protocol.specs.State.{State, End, Peer, PeerGoing, Beats, Going, Copies, Life, Up, Booting, Halted, Boot, Ready, end_of, peer_of, set_link, version_of}
 use Rattle.xp_protocol.specs.Linking.{link_can, link_row, link_effect, copy_failed}
-use Rattle.xp_protocol.specs.Peering.{Here, is_flagged, peer_can, peer_row, peer_effect, own_can, own_row, own_effect, mask_after, boot_after, stamp_after, with_reason, end_reason, with_copy, peer_failed, failed_reason}
+use Rattle.xp_protocol.specs.Peering.{Here, Mine, is_flagged, peer_can, peer_row, peer_effect, own_can, own_row, own_effect, beats_by, boot_after, stamp_after, with_reason, end_reason, with_copy, peer_failed, failed_reason}
 
 -- a channel on which steps are permitted: its partner is in contact, and no reason to deactivate it
 -- stands
@@ -50,15 +53,38 @@ here_of s st q =
       version = version_of s s.part;
       turn = st.clock.turns + 1;
       wait = back_off_of s.count;
+      check = s.check;
       masked = is_flagged st.beats.mask q;
       stamp = st.stamp;
       read = is_some st.boot.read;
     }
 
+-- what a command makes of the offline count: `offline` raises it, and `online` lowers it, unless it
+-- is 0. The one in progress stores it once
+abbrev pub offline_by : Option Command → ℕ → Option ℕ
+offline_by (Some Offline) count = Some (count + 1)
+offline_by (Some Online) count = if nat_eq count 0 then None else Some (count - 1)
+offline_by x count = None
+
+abbrev pub offline_asked : ScenarioPart → State → Option ℕ
+offline_asked s st =
+    if st.script.doing && not (has_stored st) then offline_by (current s st) st.beats.offline
+    else None
+
+-- what a step of the partition as a whole reads besides its partners
+abbrev pub mine_of : ScenarioPart → State → Mine
+mine_of s st =
+    record {
+      boot = st.boot;
+      beats = st.beats;
+      begun = st.script.begun;
+      offline = offline_asked s st;
+    }
+
 abbrev pub CanBy : ScenarioPart → State → Rule → Type 0
 CanBy s st (Link q c m) = IsUsable s st q c × link_can (end_of st q c) m
 CanBy s st (ForPeer q m) = IsPartner s q × peer_can (here_of s st q) (peer_of st q) m
-CanBy s st (Own m) = own_can s.part s.count st.boot st.peers m
+CanBy s st (Own m) = own_can s.part s.count (mine_of s st) st.peers m
 
 -- few steps are permitted in a boot, and all others after it
 abbrev pub peer_life : PeerRule → Life
@@ -95,7 +121,7 @@ life_after r a life = life
 abbrev pub row_of : ScenarioPart → State → Rule → Row
 row_of s st (Link q c m) = link_row s.part q c (end_of st q c) m
 row_of s st (ForPeer q m) = peer_row s.part st.stamp q (peer_of st q) m
-row_of s st (Own m) = own_row st.boot st.peers m
+row_of s st (Own m) = own_row (mine_of s st) st.peers m
 
 -- whose word the step works on
 abbrev pub partner_of : ScenarioPart → Rule → ℕ
@@ -123,6 +149,7 @@ begun_of Get x = x.get
 begun_of Entries x = x.entries
 begun_of RecordCopy x = x.records
 begun_of PageCopy x = x.pages
+begun_of BeatCopy x = x.beats
 begun_of kind x = 0
 
 -- the numbers of the copies that go on stand beside the ends, by channel
@@ -145,6 +172,7 @@ going_in p c = slice_index_or p.going c no_going
 abbrev pub peer_going : CopyKind → PeerGoing → ℕ
 peer_going RecordCopy x = x.records
 peer_going PageCopy x = x.pages
+peer_going BeatCopy x = x.beats
 peer_going kind x = 0
 
 abbrev pub going_at : State → Rule → CopyKind → ℕ
@@ -174,6 +202,7 @@ one_more Get x = record x { get = x.get + 1 }
 one_more Entries x = record x { entries = x.entries + 1 }
 one_more RecordCopy x = record x { records = x.records + 1 }
 one_more PageCopy x = record x { pages = x.pages + 1 }
+one_more BeatCopy x = record x { beats = x.beats + 1 }
 one_more kind x = x
 
 abbrev pub counted : Option Copied → Copies → Copies
@@ -212,7 +241,7 @@ abbrev pub peer_answered : Here → Option CopyMark → Peer → PeerRule → An
     Effect Peer (ℕ → List Note)
 peer_answered x mark p m (Word w) = peer_effect x (peer_numbered mark p) m w
 peer_answered x mark p m Failed =
-    record { local = peer_failed mark p; reason = failed_reason mark p; notes = λ c. [] }
+    record { local = peer_failed x.turn mark p; reason = failed_reason mark p; notes = λ c. [] }
 
 abbrev pub own_answered : List Peer → OwnRule → Answer → Effect (List Peer) (ℕ → ℕ → List Note)
 own_answered peers m (Word w) = own_effect peers m w
@@ -252,10 +281,10 @@ abbrev pub stamp_by_rule : State → Rule → Answer → ℕ
 stamp_by_rule st (Own m) (Word w) = stamp_after st.boot m st.stamp
 stamp_by_rule st r a = st.stamp
 
--- the mask that was stored
-abbrev pub beats_after : State → Rule → Answer → Beats
-beats_after st (Own m) (Word w) = record st.beats { mask = mask_after st.peers m st.beats.mask }
-beats_after st r a = st.beats
+-- the own heartbeat, as it was stored
+abbrev pub beats_after : ScenarioPart → State → Rule → Answer → Beats
+beats_after s st (Own m) (Word w) = beats_by (mine_of s st) st.peers m
+beats_after s st r a = st.beats
 
 -- how many messages were put
 abbrev pub puts_after : Rule → Answer → ℕ → ℕ
@@ -269,7 +298,7 @@ after_answer s st r a =
       life = life_after r a st.life;
       boot = boot_by st r a;
       stamp = stamp_by_rule st r a;
-      beats = beats_after st r a;
+      beats = beats_after s st r a;
       clock = record st.clock {
         puts = puts_after r a st.clock.puts;
         copies = counted (row_of s st r).copy st.clock.copies;

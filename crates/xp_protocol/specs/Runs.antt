@@ -8,7 +8,7 @@ use Rattle.xp_base.specs.History.{Marked, Turn, NoticeKind}
 use Rattle.xp_script.specs.declared.part.ScenarioPart.{ScenarioPart}
 use Rattle.xp_protocol.specs.declared.rule.Rule.{Rule}
 use Rattle.xp_protocol.specs.Parts.{script_in, fails_at, any_comes, some_comes}
-use Rattle.xp_protocol.specs.State.{State, Life, Booting, Up, Halted, no_boot, End, Peer, end_of, opened_state, is_connected, each}
+use Rattle.xp_protocol.specs.State.{State, Life, Booting, Up, Halted, no_boot, masked_beats, End, Peer, end_of, opened_state, is_connected, each}
 use Rattle.xp_protocol.specs.Peering.{booted_peer}
 use Rattle.xp_base.specs.declared.link.Kind.TheVariants.{CloseRequest, CloseReply, OpenRequest, OpenReply, OpenComplete}
 use Rattle.xp_protocol.specs.Linking.{owed}
@@ -32,7 +32,7 @@ restarted s st = record {
   life = Booting;
   boot = no_boot;
   stamp = 0;
-  beats = record { mask = 0 };
+  beats = masked_beats 0;
   clock = record st.clock { boots = st.clock.boots + 1 };
   script = record { begun = 0; doing = false; since = 0 };
   peers = each (λ q p. booted_peer p) 0 st.peers;

@@ -147,6 +147,19 @@ pub record Engage : Type 0 where
 pub record PeerGoing : Type 0 where
   pub pages : ℕ
   pub records : ℕ
+  pub beats : ℕ
+
+abbrev pub no_numbers : PeerGoing
+no_numbers = record { pages = 0; records = 0; beats = 0 }
+
+-- how the heartbeat of a partner in contact is watched
+pub record Watch : Type 0 where
+  pub since : ℕ  -- the turn of the contact, and then that of the last check's last load
+  pub last : Option ℕ  -- the count that the last check of this contact read
+  pub words : List ℕ  -- the words so far of a check that goes on
+
+abbrev pub new_watch : ℕ → Watch
+new_watch turn = record { since = turn; last = None; words = [] }
 
 pub record Peer : Type 0 where
   pub wanted : Bool
@@ -157,6 +170,7 @@ pub record Peer : Type 0 where
   pub numbers : PeerGoing
   pub engage : Engage
   pub contact : Option Contact
+  pub watch : Watch
   pub links : List End
   pub going : List Going  -- by channel: an end knows no numbers of copies
 
@@ -176,13 +190,21 @@ pub record Boot : Type 0 where
 abbrev pub no_boot : Boot
 no_boot = record { read = None; mask = false; offline = false }
 
--- heartbeats: the mask that was stored last
+-- the own heartbeat, as it was stored last: the mask, the count of this boot, and the offline
+-- count, with the number of the command for which it was stored, 0 where it was for none
 pub record Beats : Type 0 where
   pub mask : ℕ
+  pub count : ℕ
+  pub offline : ℕ
+  pub stored_for : ℕ
+
+abbrev pub masked_beats : ℕ → Beats
+masked_beats mask = record { mask = mask; count = 0; offline = 0; stored_for = 0 }
 
 -- how many copies of each kind were begun, over all boots
 pub record Copies : Type 0 where
   pub pages : ℕ
+  pub beats : ℕ
   pub records : ℕ
   pub args : ℕ
   pub counters : ℕ
@@ -420,9 +442,10 @@ cold_peer area =
       paging = [];
       both_new = false;
       flags_seen = 0;
-      numbers = record { pages = 0; records = 0 };
+      numbers = no_numbers;
       engage = cold_engage area;
       contact = None;
+      watch = new_watch 0;
       links = idle_links;
       going = none_going;
     }
@@ -527,6 +550,7 @@ opened_state s = record {
         puts = 0;
         copies = record {
           pages = 0;
+          beats = 0;
           records = 0;
           args = 0;
           counters = 0;
@@ -534,7 +558,7 @@ opened_state s = record {
           entries = 0;
         };
       };
-  beats = record { mask = link_mask s.links };
+  beats = masked_beats (link_mask s.links);
   script = record { begun = 0; doing = false; since = 0 };
   peers = opened_peers (opened_new s) s.links (first_peers s.count s.links);
 }

@@ -102,6 +102,8 @@ pub enum PeerRule {
     ClearEngagementBit,
     /// Loads the next word of the partner's page that says what it is, and which boot it is in.
     LookAtPage,
+    /// Loads the next word of the partner's heartbeat: its count, its mask, its offline count.
+    CheckBeat,
     /// Clears the partner's bit in the own deactivation word.
     ClearDeactivationBit,
     /// Sets the own bit in the partner's deactivation word: the own memory is closed.
@@ -126,6 +128,10 @@ pub enum OwnRule {
     StoreMask,
     /// Takes the own activation word: which partners ask for a look.
     TakeActivation,
+    /// Stores the own heartbeat count, one above the last.
+    StoreBeat,
+    /// Stores the own offline count, one up or down, as the command in progress asks for it.
+    StoreOffline,
 }
 
 /// A step, by what it may change.

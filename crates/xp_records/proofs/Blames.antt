@@ -13,7 +13,7 @@ use Rattle.xp_base.specs.declared.link.Kind.{Kind}
 use Rattle.xp_base.specs.declared.link.LinkState.TheVariants.{Connected}
 use Rattle.xp_base.specs.declared.link.Kind.TheVariants.{CloseRequest, CloseReply, OpenRequest, OpenReply, OpenComplete, MsgRequest}
 use Rattle.xp_base.specs.declared.reason.Reason.{Reason}
-use Rattle.xp_base.specs.declared.reason.Reason.TheVariants.{BadVersion, BadMagic, BadArgs, BadCounters, BadLength, BadNumber, BadFlags, UnequalSizes, PartnerClosed}
+use Rattle.xp_base.specs.declared.reason.Reason.TheVariants.{BadVersion, NoHeartbeat, BadMagic, BadArgs, BadCounters, BadLength, BadNumber, BadFlags, UnequalSizes, PartnerClosed}
 use Rattle.xp_base.specs.declared.step.Answer.{Answer}
 use Rattle.xp_base.specs.declared.step.Answer.TheVariants.{Word, Failed}
 use Rattle.xp_base.specs.declared.step.CopyMark.{CopyMark}
@@ -45,6 +45,29 @@ IsVersed reason = Unit {0}
 abbrev pub IsVersedIfAny : Option Reason → Type 0
 IsVersedIfAny None = Unit {0}
 IsVersedIfAny (Some reason) = IsVersed reason
+
+-- what an end gives as a reason to deactivate its partner: neither a version, nor a heartbeat that is
+-- missed
+abbrev pub IsGiven : Reason → Type 0
+IsGiven (BadVersion word) = ⊥
+IsGiven (NoHeartbeat last now mask) = ⊥
+IsGiven reason = Unit {0}
+
+abbrev pub IsGivenIfAny : Option Reason → Type 0
+IsGivenIfAny None = Unit {0}
+IsGivenIfAny (Some reason) = IsGiven reason
+
+versed_given : (r : Reason) → IsGiven r → IsVersed r
+versed_given (BadVersion w) h = absurd h
+versed_given r h = tt
+
+pub given_versed : (o : Option Reason) → IsGivenIfAny o → IsVersedIfAny o
+given_versed None h = tt
+given_versed (Some r) h = versed_given r h
+
+pub first_given : (a b : Option Reason) → IsGivenIfAny a → IsGivenIfAny b → IsGivenIfAny (first_reason a b)
+first_given None b h k = k
+first_given (Some r) b h k = h
 
 pub clean_by : (r : Reason) → IsVersed r → IsUnrefused (Some r) → IsClean r
 clean_by (BadVersion w) v u = absurd v
@@ -135,17 +158,17 @@ overs_both (x ∷ xs) ys h k = overs_both xs ys h k
 pub record Blames (e : End) (f : Effect End (List Note)) : Type 0 where
   pub held : Held (face e) → Held (face f.local)
   pub overs : Held (face e) → OversClean f.notes
-  pub gives : IsVersedIfAny f.reason
+  pub gives : IsGivenIfAny f.reason
   pub meet : f.local.shake.meet ≡ e.shake.meet
 
-calm : (e : End) (f : Effect End (List Note)) → face f.local ≡ face e → OversClean f.notes → IsVersedIfAny f.reason → Blames e f
+calm : (e : End) (f : Effect End (List Note)) → face f.local ≡ face e → OversClean f.notes → IsGivenIfAny f.reason → Blames e f
 calm e f same notes gives = record { held = λ h. subst (λ (x : Face). Held x) (sym same) h; overs = λ h. notes; gives = gives; meet = ap (λ (x : Face). x.meet) same }
 
 then_blames : (e : End) (f : Effect End (List Note)) (h : End → Effect End (List Note)) → Blames e f → Blames f.local (h f.local) → Blames e (and_then f h)
 then_blames e f h a b = record {
   held = λ z. b.held (a.held z);
   overs = λ z. overs_both f.notes (h f.local).notes (a.overs z) (b.overs (a.held z));
-  gives = first_versed f.reason (h f.local).reason a.gives b.gives;
+  gives = first_given f.reason (h f.local).reason a.gives b.gives;
   meet = b.meet ∙ a.meet;
 }
 
@@ -509,7 +532,7 @@ sent_meet CloseReply e = refl
 pub record Told (e : End) (f : Effect End (List Note)) : Type 0 where
   pub held : Strong (face e) → Held (face f.local)
   pub overs : Strong (face e) → OversClean f.notes
-  pub gives : IsVersedIfAny f.reason
+  pub gives : IsGivenIfAny f.reason
   pub meet : f.local.shake.meet ≡ e.shake.meet
 
 pub told : (e : End) (f : Effect End (List Note)) → Blames e f → Told e f
@@ -522,7 +545,7 @@ controls k e can =
     record {
       held = λ z. c.held (sent_held k e can z);
       overs = λ z. overs_three (opened_notes e) (changed y).notes (all_settled (changed y).local).notes (sober_overs (opened_notes e) (opened_sober (is_begun e) e.shake.meet e.epoch)) (c.overs (sent_held k e can z));
-      gives = first_versed (first_reason None (changed y).reason) (all_settled (changed y).local).reason (changes y).gives (settles_all (changed y).local).gives;
+      gives = first_given (first_reason None (changed y).reason) (all_settled (changed y).local).reason (changes y).gives (settles_all (changed y).local).gives;
       meet = c.meet ∙ sent_meet k e;
     }
   where
@@ -548,12 +571,12 @@ pulls_overs : (xs : List PullNote) → OversClean (map ByPull xs)
 pulls_overs [] = tt
 pulls_overs (x ∷ xs) = pulls_overs xs
 
-by_ring : (e : End) (f : Effect Sending (List SendNote)) → FairNotes e.shake.reason e.shake.sent.close_reply (map BySend f.notes) → IsVersedIfAny f.reason → Blames e (by_send e f)
+by_ring : (e : End) (f : Effect Sending (List SendNote)) → FairNotes e.shake.reason e.shake.sent.close_reply (map BySend f.notes) → IsGivenIfAny f.reason → Blames e (by_send e f)
 by_ring e f fair gives =
     let z : End = record e { sides = record e.sides { send = f.local } } in
     record { held = λ h. hears_held (map BySend f.notes) z fair h; overs = λ h. sends_overs f.notes; gives = gives; meet = ap (λ (x : Root). x.meet) (hears_root (map BySend f.notes) z) }
 
-by_load : (e : End) (f : Effect Pulling (List PullNote)) → FairNotes e.shake.reason e.shake.sent.close_reply (map ByPull f.notes) → IsVersedIfAny f.reason → Blames e (by_pull e f)
+by_load : (e : End) (f : Effect Pulling (List PullNote)) → FairNotes e.shake.reason e.shake.sent.close_reply (map ByPull f.notes) → IsGivenIfAny f.reason → Blames e (by_pull e f)
 by_load e f fair gives =
     let z : End = record e { sides = record e.sides { pull = f.local } } in
     record { held = λ h. hears_held (map ByPull f.notes) z fair h; overs = λ h. pulls_overs f.notes; gives = gives; meet = ap (λ (x : Root). x.meet) (hears_root (map ByPull f.notes) z) }
@@ -568,25 +591,25 @@ rings e ReadGet w = rings_get e e.sides.send w (is_bad_get e.sides.send w) (is_f
 rings e (WriteEntryWord f) w = by_ring e (ring_effect e.sides.send (WriteEntryWord f) w) tt tt
 rings e AcceptMessage w = by_ring e (ring_effect e.sides.send AcceptMessage w) (tt, (tt, tt)) tt
 
--- what is wrong with an entry is no version
-entry_versed : (a b : Bool) (first wanted second : ℕ) → IsVersedIfAny (cond a (Some (BadLength first)) (cond b None (Some (BadNumber wanted second))))
-entry_versed true b first wanted second = tt
-entry_versed false true first wanted second = tt
-entry_versed false false first wanted second = tt
+-- what is wrong with an entry is no version, and no heartbeat
+entry_given : (a b : Bool) (first wanted second : ℕ) → IsGivenIfAny (cond a (Some (BadLength first)) (cond b None (Some (BadNumber wanted second))))
+entry_given true b first wanted second = tt
+entry_given false true first wanted second = tt
+entry_given false false first wanted second = tt
 
-run_versed : (limit number b : ℕ) (words : List ℕ) → IsVersedIfAny (run_fault limit number b words)
-run_versed limit number zero words = tt
-run_versed limit number (suc b) words =
-    first_versed (entry_fault limit number words) (run_fault limit (number + 1) b (drop (entry_words limit) words))
-    (entry_versed (nat_lt (slice_index words 0) 65536 || nat_lt (65536 + limit) (slice_index words 0)) (nat_eq (slice_index words 1) number) (slice_index words 0) number (slice_index words 1))
-    (run_versed limit (number + 1) b (drop (entry_words limit) words))
+run_given : (limit number b : ℕ) (words : List ℕ) → IsGivenIfAny (run_fault limit number b words)
+run_given limit number zero words = tt
+run_given limit number (suc b) words =
+    first_given (entry_fault limit number words) (run_fault limit (number + 1) b (drop (entry_words limit) words))
+    (entry_given (nat_lt (slice_index words 0) 65536 || nat_lt (65536 + limit) (slice_index words 0)) (nat_eq (slice_index words 1) number) (slice_index words 0) number (slice_index words 1))
+    (run_given limit (number + 1) b (drop (entry_words limit) words))
 
-copied_blames : (e : End) (o : Option Reason) (n : ℕ) (words : List ℕ) → IsVersedIfAny o → Blames e (by_pull e (run_copied o n words e.sides.pull))
+copied_blames : (e : End) (o : Option Reason) (n : ℕ) (words : List ℕ) → IsGivenIfAny o → Blames e (by_pull e (run_copied o n words e.sides.pull))
 copied_blames e None n words h = by_load e (run_copied None n words e.sides.pull) tt tt
 copied_blames e (Some r) n words h = by_load e (run_copied (Some r) n words e.sides.pull) tt h
 
 entries_blames : (b : Bool) (e : End) (n : ℕ) (words : List ℕ) → (let x = e.sides.pull in let f : Effect Pulling (List PullNote) = cond b (run_copied (run_fault x.limit x.pulled n words) n words x) (record { local = record x { copied = words; run = n }; reason = None; notes = [] }) in Blames e (by_pull e f))
-entries_blames true e n words = copied_blames e (run_fault e.sides.pull.limit e.sides.pull.pulled n words) n words (run_versed e.sides.pull.limit e.sides.pull.pulled n words)
+entries_blames true e n words = copied_blames e (run_fault e.sides.pull.limit e.sides.pull.pulled n words) n words (run_given e.sides.pull.limit e.sides.pull.pulled n words)
 entries_blames false e n words = let f : Effect Pulling (List PullNote) = record { local = record e.sides.pull { copied = words; run = n }; reason = None; notes = [] } in by_load e f tt tt
 
 get_blames : (b : Bool) (e : End) (y : SenderCounters) (w : ℕ) → (let x = e.sides.pull in let f : Effect Pulling (List PullNote) = cond b (record { local = record x { owed = false }; reason = Some (BadCounters w y.put); notes = [] }) (record { local = record x { counters = Some w; known = w; owed = false }; reason = None; notes = Heard w ∷ [] }) in Blames e (by_pull e f))
@@ -646,13 +669,13 @@ failed_same : (mark : Option CopyMark) (e : End) → face (end_failed mark e) �
 failed_same None e = refl
 failed_same (Some mark) e = refl
 
-failed_versed : (mark : Option CopyMark) → IsVersedIfAny (copy_error mark)
-failed_versed None = tt
-failed_versed (Some mark) = tt
+failed_given : (mark : Option CopyMark) → IsGivenIfAny (copy_error mark)
+failed_given None = tt
+failed_given (Some mark) = tt
 
 pub linked : (mark : Option CopyMark) (place : ℕ) (e : End) (m : LinkRule) (a : Answer) → link_can e m → Told e (link_answered mark place e m a)
 linked mark place e m (Word w) can = link_told place e m w can
-linked mark place e m Failed can = told e (record { local = end_failed mark e; reason = copy_error mark; notes = [] }) (calm e (record { local = end_failed mark e; reason = copy_error mark; notes = [] }) (failed_same mark e) tt (failed_versed mark))
+linked mark place e m Failed can = told e (record { local = end_failed mark e; reason = copy_error mark; notes = [] }) (calm e (record { local = end_failed mark e; reason = copy_error mark; notes = [] }) (failed_same mark e) tt (failed_given mark))
 
 -- a step of the end is made in contact
 connected_meet : (e : End) → link_of e ≡ Connected → is_some e.shake.meet ≡ true

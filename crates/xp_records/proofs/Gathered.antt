@@ -14,6 +14,7 @@ use Rattle.xp_records.proofs.Acknowledged.{all_acked}
 use Rattle.xp_records.proofs.Answered.{all_answered}
 use Rattle.xp_records.proofs.Cleaned.{look_clean, reason_clean, end_clean, over_clean}
 use Rattle.xp_records.proofs.Logs.{answers_clean}
+use Rattle.xp_records.proofs.Missed.{all_missed}
 use Rattle.xp_records.proofs.Named.{names_once}
 use Rattle.xp_records.proofs.Recorded.{all_recorded}
 use Rattle.xp_records.proofs.Stamps.{BootsFew, none_halts}
@@ -40,4 +41,5 @@ all_promised few s law h m r =
         answers = λ p l x c answer e. answers_clean s law h m r p l x c answer e;
         none_halts = none_halts s law (few s law) h m r;
       };
+      heartbeats_missed = all_missed s h m r;
     }

@@ -17,6 +17,7 @@ mod Stamps
 mod Blames
 mod Answering
 mod Looks
+mod Missed
 mod Reasons
 mod Cleaned
 mod Logs

@@ -1,6 +1,6 @@
 -- No answer in a log tells a reason by which a word that was read is refused.
 use Rattle.std.proofs.Common.{◌≡◌, ℕ, ◌+◌, ◌-◌, zero, suc, ◌<◌, Bool, true, false, cond, eqb, List, [], ◌∷◌, ◌++◌, refl, ap, sym, ◌∙◌, subst, append_assoc, Option, Some, None, inl, inr, ◌⊎◌}
-use Rattle.std.specs.Prelude.{slice_get, nat_lt}
+use Rattle.std.specs.Prelude.{slice_get, nat_eq, nat_lt}
 use Rattle.std.specs.List.{All, Contains}
 use Rattle.std.proofs.lemmas.List.{append-nil}
 use Rattle.std.proofs.lemmas.List.Elements.{All-nil, All-cons, All-contains}
@@ -15,7 +15,8 @@ use Rattle.xp_script.specs.declared.command.Command.{Command}
 use Rattle.xp_script.specs.declared.command.Command.TheVariants as commands
 use Rattle.xp_script.specs.declared.log.Entry.{Entry}
 use Rattle.xp_script.specs.declared.log.LogAnswer.{LogAnswer}
-use Rattle.xp_script.specs.declared.log.LogAnswer.TheVariants.{Deactivate as DeactivateAnswered, Activate as ActivateAnswered, Leave as LeaveAnswered, Idle as IdleAnswered}
+use Rattle.xp_script.specs.declared.log.OnlineAnswer.TheVariants.{Ok as OnlineOk, NotOffline}
+use Rattle.xp_script.specs.declared.log.LogAnswer.TheVariants.{Offline as OfflineAnswered, Online as OnlineAnswered, Deactivate as DeactivateAnswered, Activate as ActivateAnswered, Leave as LeaveAnswered, Idle as IdleAnswered}
 use Rattle.xp_script.specs.declared.part.ScenarioPart.{ScenarioPart}
 use Rattle.xp_script.specs.declared.scenario.Scenario.{Scenario}
 use Rattle.xp_script.specs.Commands.{verb_of}
@@ -23,7 +24,7 @@ use Rattle.xp_script.specs.Lawful.{IsLawful}
 use Rattle.xp_script.specs.Opening.{opening}
 use Rattle.xp_script.specs.Parts.{part_of}
 use Rattle.xp_protocol.specs.declared.rule.Rule.{Rule}
-use Rattle.xp_protocol.specs.Acts.{MayActs, EndName, named_end, current, upcoming, due, due_to, due_at, partition_due, end_due, all_gone, after_act, after_acts}
+use Rattle.xp_protocol.specs.Acts.{has_stored, online_due, MayActs, EndName, named_end, current, upcoming, due, due_to, due_at, partition_due, end_due, all_gone, after_act, after_acts}
 use Rattle.xp_protocol.specs.Logged.{begun_entry, last_answered, entries_act, entries_acts, entries_turn, entries_from}
 use Rattle.xp_protocol.specs.Parts.{IsLawfulPart, IsLawfulCommand, script_in}
 use Rattle.xp_protocol.specs.Promised.{memory_by}
@@ -119,8 +120,15 @@ partition_clean s st (commands.Release q c number) = tt
 partition_clean s st (commands.Drain q c) = tt
 partition_clean s st (commands.Net frame) = tt
 partition_clean s st (commands.Frames count) = tt
-partition_clean s st commands.Offline = tt
-partition_clean s st commands.Online = tt
+partition_clean s st commands.Offline = cond_clean (has_stored st) OfflineAnswered tt
+partition_clean s st commands.Online = online_clean (has_stored st) st.beats.offline where
+  missing : (b : Bool) → IsCleanIfGiven (cond b (Some (OnlineAnswered NotOffline)) None)
+  missing true = tt
+  missing false = tt
+
+  online_clean : (a : Bool) (count : ℕ) → IsCleanIfGiven (online_due a count)
+  online_clean true count = tt
+  online_clean false count = missing (nat_eq count 0)
 
 module _ (su : ScenarioPart) (law : IsLawfulPart su) where
   named_clean : (st : State) → Strongs su.count su.part st → (x : Command) (o : Option EndName) → IsLawfulCommand su x → named_end x ≡ o → IsCleanIfGiven (due_at su st x o)

@@ -8,7 +8,7 @@ use Rattle.std.proofs.lemmas.Bool.Decides.{nat_tests}
 use Rattle.std.proofs.lemmas.List.{get_or-replicate, get_or_past, length-replicate}
 use Rattle.std.specs.List.{slice_get}
 use Rattle.xp_base.specs.declared.reason.Reason.{Reason}
-use Rattle.xp_base.specs.declared.reason.Reason.TheVariants.{BadFlags, OtherGoingDown, Unloading, Reactivating, CopyError}
+use Rattle.xp_base.specs.declared.reason.Reason.TheVariants.{BadFlags, OtherGoingDown, Unloading, NoHeartbeat, Reactivating, CopyError}
 use Rattle.xp_base.specs.declared.step.Answer.{Answer}
 use Rattle.xp_base.specs.declared.step.Answer.TheVariants.{Word, Failed}
 use Rattle.xp_base.specs.declared.step.CopyKind.{CopyKind}
@@ -24,21 +24,21 @@ use Rattle.xp_protocol.specs.declared.contact.Look.TheVariants.{Unseen, Absent, 
 use Rattle.xp_protocol.specs.declared.rule.AreaWord.{AreaWord}
 use Rattle.xp_protocol.specs.declared.rule.AreaWord.TheVariants.{SessionWord, EchoWord, PlaceWord, ArgsWord, FlagWord, CounterWord}
 use Rattle.xp_protocol.specs.declared.rule.PeerRule.{PeerRule}
-use Rattle.xp_protocol.specs.declared.rule.PeerRule.TheVariants.{AskActivation, TakeFlags, CloseArea, ZeroMagic, ClearOldBit, Prepare, OpenArea, SetEngagementBit, ReadRecord, StoreEcho, StoreSecond, ClearEngagementBit, LookAtPage, ClearDeactivationBit, TellPartner}
-use Rattle.xp_protocol.specs.declared.rule.OwnRule.TheVariants.{ReadEngaged, TakeDeactivation, ReadStamp, ZeroMask, ZeroOffline, WriteStamp, StoreMask, TakeActivation}
+use Rattle.xp_protocol.specs.declared.rule.PeerRule.TheVariants.{AskActivation, TakeFlags, CloseArea, ZeroMagic, ClearOldBit, Prepare, OpenArea, SetEngagementBit, ReadRecord, StoreEcho, StoreSecond, ClearEngagementBit, LookAtPage, CheckBeat, ClearDeactivationBit, TellPartner}
+use Rattle.xp_protocol.specs.declared.rule.OwnRule.TheVariants.{ReadEngaged, TakeDeactivation, ReadStamp, ZeroMask, ZeroOffline, WriteStamp, StoreMask, TakeActivation, StoreBeat, StoreOffline}
 use Rattle.xp_protocol.specs.declared.rule.Rule.{Rule}
 use Rattle.xp_protocol.specs.declared.rule.Rule.TheVariants.{Link, Peer as ForPeer, Own}
 use Rattle.xp_protocol.specs.Effects.{Effect, just, and_then, Note, first_reason}
-use Rattle.xp_protocol.specs.State.{State, End, Peer, Reading, Old, cold_peer, warm_peer, base_peer, first_peers, opened_peers, opened_state, opened_new, is_begun, link_at, peer_at, peer_of, end_of, set_link}
+use Rattle.xp_protocol.specs.State.{State, End, Peer, Reading, Watch, Old, cold_peer, warm_peer, base_peer, first_peers, opened_peers, opened_state, opened_new, is_begun, link_at, peer_at, peer_of, end_of, set_link}
 use Rattle.xp_protocol.specs.Linking.{close_now, link_closed, parted, link_down, flags_got}
-use Rattle.xp_protocol.specs.Peering.{Here, with_reason, is_ready, links_reason, end_reason, prepared, is_absent, both_new_by, judged, look_reason, page_read, paging_failed, peer_failed, failed_reason, fails_for, peer_effect, peer_read, deactivation_heard, record_read, try_contact, contact_made, same_peer, is_magic, is_wrong, has_shown, is_bad_flags, is_flagged, flags_taken, with_flags, area_left_for, area_off, is_left, booted_peer}
+use Rattle.xp_protocol.specs.Peering.{Here, with_reason, is_ready, links_reason, end_reason, prepared, is_absent, both_new_by, judged, look_reason, page_read, CHECK_WORDS, beat_reason, is_still, or_zero, watch_reason, paging_failed, peer_failed, failed_reason, fails_for, peer_effect, peer_read, deactivation_heard, record_read, try_contact, contact_made, same_peer, is_magic, is_wrong, has_shown, is_bad_flags, is_flagged, flags_taken, with_flags, area_left_for, area_off, is_left, booted_peer}
 use Rattle.xp_protocol.specs.Rules.{Can, here_of, mark_of, numbered, place_for, link_answered, peer_numbered, peer_answered, after_answer}
 use Rattle.xp_protocol.specs.Acts.{after_act, aimed, Aim, with_aim, command_begun}
 use Rattle.xp_protocol.specs.Runs.{turned, moment_by}
 use Rattle.xp_protocol.proofs.Slots.{at_peer, at_each}
 use Rattle.xp_protocol.proofs.Frames.{wanted_at}
 use Rattle.xp_records.specs.Clean.{IsAccepted}
-use Rattle.xp_records.proofs.Blames.{IsVersedIfAny, first_versed, takes, linked}
+use Rattle.xp_records.proofs.Blames.{IsVersedIfAny, given_versed, first_versed, takes, linked}
 
 -- of a partner whose version word is v
 pub record Seen (v : ℕ) (paging : List ℕ) (look : Look) (reason : Option Reason) : Type 0 where
@@ -130,8 +130,8 @@ module _ (v : ℕ) (known : IsVersion v) where
   same : (p : Peer) → SeenOf v p → SeenIn (same_peer p)
   same p h = (h, tt)
 
-  meets : (stamp : ℕ) (p : Peer) → SeenOf v p → SeenIn (try_contact stamp p)
-  meets stamp p h = either (p.engage.second && (p.engage.shown && not (is_some p.contact))) (contact_made stamp p) (same_peer p) (h, tt) (h, tt)
+  meets : (turn stamp : ℕ) (p : Peer) → SeenOf v p → SeenIn (try_contact turn stamp p)
+  meets turn stamp p h = either (p.engage.second && (p.engage.shown && not (is_some p.contact))) (contact_made turn stamp p) (same_peer p) (h, tt) (h, tt)
 
   going : (b : Bool) → IsVersedIfAny (cond b (Some (OtherGoingDown 0)) None)
   going true = tt
@@ -141,7 +141,7 @@ module _ (v : ℕ) (known : IsVersion v) where
   reads y p None w h = either (eqb w 0) _ _ (h, going (is_some p.engage.echo)) (either (is_magic w) _ _ (h, tt) (h, tt))
   reads y p (Some r) w h =
       either (eqb r.done 1) _ _ (h, tt) (either (eqb r.done 2) _ _ (h, tt) (either (eqb r.done 7) _ _
-      (either (has_shown y.stamp p.engage r) _ _ (meets y.stamp (record p { engage = record p.engage { shown = true; reading = None } }) h) (h, tt))
+      (either (has_shown y.stamp p.engage r) _ _ (meets y.turn y.stamp (record p { engage = record p.engage { shown = true; reading = None } }) h) (h, tt))
       (either (is_wrong y.part r.done w) _ _ (h, tt) (h, tt))))
 
   leaves : (o : Option Reason) (p : Peer) → SeenOf v p → SeenIn (area_left_for o p)
@@ -160,6 +160,16 @@ module _ (v : ℕ) (known : IsVersion v) where
     by true t = let k = accepted (omega (arith, eqb-true (length ws) 5 t)) in (record { paged = λ l. absurd (omega (arith, l)); accepted = k; versed = h.versed }, look_versed p.engage.echo (judged ws) w k)
     by false t = (record { paged = there; accepted = h.accepted; versed = h.versed }, tt)
 
+  still : (b : Bool) (last now mask : ℕ) → IsVersedIfAny (cond b (Some (NoHeartbeat last now mask)) None)
+  still true last now mask = tt
+  still false last now mask = tt
+
+  checks : (part : ℕ) (ws : List ℕ) (x : Watch) → IsVersedIfAny (watch_reason part ws x)
+  checks part ws x = by (eqb (length ws) CHECK_WORDS) where
+    by : (b : Bool) → IsVersedIfAny (cond b (beat_reason part x.last ws) None)
+    by true = still (is_still part x.last ws) (or_zero x.last) (slice_index ws 0) (slice_index ws 1)
+    by false = tt
+
   prepares : (x : AreaWord) (p : Peer) → SeenOf v p → SeenIn (same_peer (record p { engage = prepared x p.engage }))
   prepares SessionWord p h = (h, tt)
   prepares EchoWord p h = (h, tt)
@@ -169,14 +179,14 @@ module _ (v : ℕ) (known : IsVersion v) where
   prepares (CounterWord c f) p h = (h, tt)
 
   flags : (w : ℕ) (p : Peer) → SeenOf v p → SeenIn (flags_taken w p)
-  flags w p h = (h, end_versed (with_flags w p).flags_seen (links_reason (λ c e. flags_got (kinds_in w c) e) (with_flags w p)) (links_versed (λ c e. flags_got (kinds_in w c) e) (with_flags w p) (λ c. (takes (kinds_in w c) (link_at p.links c)).gives)))
+  flags w p h = (h, end_versed (with_flags w p).flags_seen (links_reason (λ c e. flags_got (kinds_in w c) e) (with_flags w p)) (links_versed (λ c e. flags_got (kinds_in w c) e) (with_flags w p) (λ c. given_versed (flags_got (kinds_in w c) (link_at p.links c)).reason (takes (kinds_in w c) (link_at p.links c)).gives)))
 
   peered : (y : Here) (p : Peer) (m : PeerRule) (w : ℕ) → (m ≡ LookAtPage → length p.paging ≡ 1 → w ≡ v) → SeenOf v p → SeenIn (peer_effect y p m w)
   peered y p LookAtPage w look h = looks y.version (p.paging ++ w ∷ []) w p h (paged_next p.paging w v h.paged (look refl))
   peered y p TakeFlags w look h = either (is_bad_flags w) _ (flags_taken w p) (h, tt) (flags w p h)
   peered y p CloseArea w look h = leaves p.engage.reason p h
   peered y p ReadRecord w look h = reads y p p.engage.reading w h
-  peered y p StoreSecond w look h = meets y.stamp (record p { engage = record p.engage { second = true } }) h
+  peered y p StoreSecond w look h = meets y.turn y.stamp (record p { engage = record p.engage { second = true } }) h
   peered y p AskActivation w look h = (h, tt)
   peered y p ZeroMagic w look h = (h, tt)
   peered y p ClearOldBit w look h = (h, tt)
@@ -185,6 +195,7 @@ module _ (v : ℕ) (known : IsVersion v) where
   peered y p SetEngagementBit w look h = (h, tt)
   peered y p StoreEcho w look h = (h, tt)
   peered y p ClearEngagementBit w look h = (h, tt)
+  peered y p CheckBeat w look h = (h, checks y.part (p.watch.words ++ w ∷ []) p.watch)
   peered y p ClearDeactivationBit w look h = (h, tt)
   peered y p TellPartner w look h = (h, tt)
 
@@ -232,7 +243,7 @@ module _ (v : ℕ) (known : IsVersion v) where
     ruled su st (Link k d m) a can look h =
         let f = link_answered (mark_of su st (Link k d m)) (place_for su d) (end_of st k d) m a in
         let p = set_link (numbered (mark_of su st (Link k d m)) d (peer_of st k)) d f.local in
-        at_peer (λ (p : Peer). SeenOf v p) st.peers k (with_reason (end_reason (peer_of st k).flags_seen f.reason) p) q (λ e. blamed v (end_reason (peer_of st k).flags_seen f.reason) p (set_same d (numbered (mark_of su st (Link k d m)) d (peer_of st k)) f.local (same_numbered (mark_of su st (Link k d m)) d (peer_of st k) (subst (λ (j : ℕ). SeenOf v (peer_of st j)) e h))) (end_versed (peer_of st k).flags_seen f.reason (linked (mark_of su st (Link k d m)) (place_for su d) (end_of st k d) m a can.1.1).gives)) h
+        at_peer (λ (p : Peer). SeenOf v p) st.peers k (with_reason (end_reason (peer_of st k).flags_seen f.reason) p) q (λ e. blamed v (end_reason (peer_of st k).flags_seen f.reason) p (set_same d (numbered (mark_of su st (Link k d m)) d (peer_of st k)) f.local (same_numbered (mark_of su st (Link k d m)) d (peer_of st k) (subst (λ (j : ℕ). SeenOf v (peer_of st j)) e h))) (end_versed (peer_of st k).flags_seen f.reason (given_versed f.reason (linked (mark_of su st (Link k d m)) (place_for su d) (end_of st k d) m a can.1.1).gives))) h
       where
         same_numbered : (mark : Option CopyMark) (d : ℕ) (p : Peer) → SeenOf v p → SeenOf v (numbered mark d p)
         same_numbered None d p h = h
@@ -254,6 +265,8 @@ module _ (v : ℕ) (known : IsVersion v) where
     ruled su st (Own WriteStamp) (Word w) can look h = h
     ruled su st (Own StoreMask) (Word w) can look h = h
     ruled su st (Own TakeActivation) (Word w) can look h = h
+    ruled su st (Own StoreBeat) (Word w) can look h = h
+    ruled su st (Own StoreOffline) (Word w) can look h = h
     ruled su st (Own m) Failed can look h = h
 
     aimed_at : (x : Option Aim) (st : State) → At st → At (with_aim x st)

@@ -13,8 +13,8 @@ use Rattle.xp_base.specs.History.{Act, Begun, Answered, Noticed, NoticeKind, Del
 use Rattle.xp_script.specs.declared.command.Command.{Command}
 use Rattle.xp_protocol.specs.declared.contact.PartnerState.TheVariants.{Active}
 use Rattle.xp_protocol.specs.declared.rule.PeerRule.{PeerRule}
-use Rattle.xp_protocol.specs.declared.rule.PeerRule.TheVariants.{AskActivation, TakeFlags, CloseArea, ZeroMagic, ClearOldBit, Prepare, OpenArea, SetEngagementBit, ReadRecord, StoreEcho, StoreSecond, ClearEngagementBit, LookAtPage, ClearDeactivationBit, TellPartner}
-use Rattle.xp_protocol.specs.declared.rule.OwnRule.TheVariants.{ReadEngaged, TakeDeactivation, ReadStamp, ZeroMask, ZeroOffline, WriteStamp, StoreMask, TakeActivation}
+use Rattle.xp_protocol.specs.declared.rule.PeerRule.TheVariants.{AskActivation, TakeFlags, CloseArea, ZeroMagic, ClearOldBit, Prepare, OpenArea, SetEngagementBit, ReadRecord, StoreEcho, StoreSecond, ClearEngagementBit, LookAtPage, CheckBeat, ClearDeactivationBit, TellPartner}
+use Rattle.xp_protocol.specs.declared.rule.OwnRule.TheVariants.{ReadEngaged, TakeDeactivation, ReadStamp, ZeroMask, ZeroOffline, WriteStamp, StoreMask, TakeActivation, StoreBeat, StoreOffline}
 use Rattle.xp_protocol.specs.declared.rule.Rule.{Rule}
 use Rattle.xp_protocol.specs.declared.rule.Rule.TheVariants.{Link, Peer as ForPeer, Own}
 use Rattle.xp_script.specs.declared.part.Link.{Link as SetupLink}
@@ -73,10 +73,10 @@ module _ (y : Here) (p : Peer) (n : length p.links ≡ 4) (old : AwayAt p) where
   each_link : (f : ℕ → End → Effect End (List Note)) (P : End → Type 0) → ((c : ℕ) → P (f c (link_at p.links c)).local) → (c : ℕ) → c < 4 → P (link_at (each (λ c e. (f c e).local) 0 p.links) c)
   each_link f P h c l = at_each P (λ c e. (f c e).local) p.links c idle_end (h c) (λ m. absurd (omega (arith, n, m, l)))
 
-  meets : (z : Peer) → z.links ≡ p.links → z.contact ≡ p.contact → z.engage.area ≡ p.engage.area → p.engage.area ≡ Ready → AwayAt (try_contact y.stamp z).local
+  meets : (z : Peer) → z.links ≡ p.links → z.contact ≡ p.contact → z.engage.area ≡ p.engage.area → p.engage.area ≡ Ready → AwayAt (try_contact y.turn y.stamp z).local
   meets z el ec ea ready =
       let now : AwayAt z = subst (λ (a : Area). Away a z.contact z.links) (sym ea) (subst (λ (o : Option Contact). Away p.engage.area o z.links) (sym ec) (subst (λ (ls : List End). Away p.engage.area p.contact ls) (sym el) old)) in
-      cond_away (z.engage.second && (z.engage.shown && not (is_some z.contact))) (contact_made y.stamp z) (same_peer z)
+      cond_away (z.engage.second && (z.engage.shown && not (is_some z.contact))) (contact_made y.turn y.stamp z) (same_peer z)
       (record { contact = λ r. (let t : is_ready z.engage.area ≡ true = ap is_ready (ea ∙ ready) in absurd (cc)); apart = λ m. absurd (cc); fresh = λ l m. absurd (cc) }) now
 
   read_away : (o : Option Reading) (w : ℕ) → p.engage.area ≡ Ready → AwayAt (record_read y p o w).local
@@ -114,10 +114,11 @@ module _ (y : Here) (p : Peer) (n : length p.links ≡ 4) (old : AwayAt p) where
   peered_away StoreSecond w can = meets (record p { engage = record p.engage { second = true } }) refl refl refl can.0
   peered_away ClearEngagementBit w can = old
   peered_away LookAtPage w can = cond_away (eqb (length (p.paging ++ w ∷ [])) 5) _ _ old old
+  peered_away CheckBeat w can = old
   peered_away ClearDeactivationBit w can = old
   peered_away TellPartner w can = old
 
-  failed_away : (mark : Option CopyMark) → AwayAt (peer_failed mark p)
+  failed_away : (mark : Option CopyMark) → AwayAt (peer_failed y.turn mark p)
   failed_away None = old
   failed_away (Some mark) = old
 
@@ -168,9 +169,9 @@ module _ (q c : ℕ) (lc : c < 4) (y : Here) (p : Peer) (n : length p.links ≡ 
   same : Q (link_at p.links c) []
   same = (order_same q c (link_at p.links c) w, calm_sends (link_at p.links c) (link_at p.links c) refl)
 
-  joins_in : (z : Peer) → z.links ≡ p.links → z.contact ≡ p.contact → p.engage.area ≡ Ready → In (try_contact y.stamp z)
+  joins_in : (z : Peer) → z.links ≡ p.links → z.contact ≡ p.contact → p.engage.area ≡ Ready → In (try_contact y.turn y.stamp z)
   joins_in z el ec ready =
-      cond_in (z.engage.second && (z.engage.shown && not (is_some z.contact))) (contact_made y.stamp z) (same_peer z)
+      cond_in (z.engage.second && (z.engage.shown && not (is_some z.contact))) (contact_made y.turn y.stamp z) (same_peer z)
       (λ t.
       let alone : p.contact ≡ None = sym ec ∙ none_by z.contact (both_true z.engage.second z.engage.shown (is_some z.contact) t) in
       let fresh = far.fresh (ap is_leaving ready) alone c lc in
@@ -205,6 +206,7 @@ module _ (q c : ℕ) (lc : c < 4) (y : Here) (p : Peer) (n : length p.links ≡ 
   peered StoreEcho v can = same
   peered ClearEngagementBit v can = same
   peered LookAtPage v can = cond_in (eqb (length (p.paging ++ v ∷ [])) 5) _ _ (λ t. same) (λ t. same)
+  peered CheckBeat v can = same
   peered ClearDeactivationBit v can = same
   peered TellPartner v can = same
 
@@ -222,7 +224,7 @@ module _ (q c : ℕ) (lc : c < 4) (y : Here) (p : Peer) (n : length p.links ≡ 
     by true = same
     by false = same
 
-  failed : (mark : Option CopyMark) → Q (link_at (peer_failed mark p).links c) []
+  failed : (mark : Option CopyMark) → Q (link_at (peer_failed y.turn mark p).links c) []
   failed None = same
   failed (Some mark) = same
 
@@ -249,6 +251,7 @@ numbered_can y (Some mark) p StoreEcho h = h
 numbered_can y (Some mark) p StoreSecond h = h
 numbered_can y (Some mark) p ClearEngagementBit h = h
 numbered_can y (Some mark) p LookAtPage h = h
+numbered_can y (Some mark) p CheckBeat h = h
 numbered_can y (Some mark) p ClearDeactivationBit h = h
 numbered_can y (Some mark) p TellPartner h = h
 
@@ -288,7 +291,7 @@ module _ (su : ScenarioPart) (law : IsLawfulPart su) (st : State) (h : Ordered s
   rule_both (ForPeer j m) Failed is can q c lq lc =
       let mark = mark_of su st (ForPeer j m) in
       peer_frame (λ e ns. Both q c e ns) su st j m Failed q c h.all can.1.0.low
-      (λ e. subst (λ (x : ℕ). Orders q c (end_of st x c) (link_at (peer_failed mark (peer_of st j)).links c) [] × Sends (end_of st x c) (link_at (peer_failed mark (peer_of st j)).links c)) e (failed q c lc (here_of su st j) (peer_of st j) (h.all.channels j) (h.flows j c can.1.0.low lc) (h.away j can.1.0.low) mark)) (λ o. both_same q c lq lc)
+      (λ e. subst (λ (x : ℕ). Orders q c (end_of st x c) (link_at (peer_failed (here_of su st j).turn mark (peer_of st j)).links c) [] × Sends (end_of st x c) (link_at (peer_failed (here_of su st j).turn mark (peer_of st j)).links c)) e (failed q c lc (here_of su st j) (peer_of st j) (h.all.channels j) (h.flows j c can.1.0.low lc) (h.away j can.1.0.low) mark)) (λ o. both_same q c lq lc)
   rule_both (Own ReadEngaged) (Word v) is can q c lq lc = peers_framed (λ e ns. Both q c e ns) (peer_read v) st.peers q c h.all lq (freed q c lc (here_of su st q) (peer_at st.peers q) (h.all.channels q) (h.flows q c lq lc) (h.away q lq) v q)
   rule_both (Own TakeDeactivation) (Word v) is can q c lq lc = peers_framed (λ e ns. Both q c e ns) (deactivation_heard v) st.peers q c h.all lq (told q c lc (here_of su st q) (peer_at st.peers q) (h.all.channels q) (h.flows q c lq lc) (h.away q lq) v q)
   rule_both (Own ReadStamp) (Word v) is can q c lq lc = both_same q c lq lc
@@ -297,6 +300,8 @@ module _ (su : ScenarioPart) (law : IsLawfulPart su) (st : State) (h : Ordered s
   rule_both (Own WriteStamp) (Word v) is can q c lq lc = both_same q c lq lc
   rule_both (Own StoreMask) (Word v) is can q c lq lc = both_same q c lq lc
   rule_both (Own TakeActivation) (Word v) is can q c lq lc = both_same q c lq lc
+  rule_both (Own StoreBeat) (Word v) is can q c lq lc = both_same q c lq lc
+  rule_both (Own StoreOffline) (Word v) is can q c lq lc = both_same q c lq lc
   rule_both (Own m) Failed is can q c lq lc = both_same q c lq lc
 
   pub rule_sends : (r : Rule) (a : Answer) → IsWide r → Can su st r → (q c : ℕ) → q < su.count → c < 4 → Sends (end_of st q c) (end_of (after_answer su st r a) q c)
@@ -328,6 +333,8 @@ module _ (su : ScenarioPart) (law : IsLawfulPart su) (st : State) (h : Ordered s
   rule_away (Own WriteStamp) (Word v) can q lq = h.away q lq
   rule_away (Own StoreMask) (Word v) can q lq = h.away q lq
   rule_away (Own TakeActivation) (Word v) can q lq = h.away q lq
+  rule_away (Own StoreBeat) (Word v) can q lq = h.away q lq
+  rule_away (Own StoreOffline) (Word v) can q lq = h.away q lq
   rule_away (Own m) Failed can q lq = h.away q lq
 
   pub ordered_rule : (r : Rule) (a : Answer) → Can su st r → Ordered su.count (after_answer su st r a)

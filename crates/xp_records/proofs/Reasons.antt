@@ -16,8 +16,8 @@ use Rattle.xp_protocol.specs.declared.contact.Contact.{Contact}
 use Rattle.xp_protocol.specs.declared.rule.AreaWord.{AreaWord}
 use Rattle.xp_protocol.specs.declared.rule.LinkRule.{LinkRule}
 use Rattle.xp_protocol.specs.declared.rule.PeerRule.{PeerRule}
-use Rattle.xp_protocol.specs.declared.rule.PeerRule.TheVariants.{AskActivation, TakeFlags, CloseArea, ZeroMagic, ClearOldBit, Prepare, OpenArea, SetEngagementBit, ReadRecord, StoreEcho, StoreSecond, ClearEngagementBit, LookAtPage, ClearDeactivationBit, TellPartner}
-use Rattle.xp_protocol.specs.declared.rule.OwnRule.TheVariants.{ReadEngaged, TakeDeactivation, ReadStamp, ZeroMask, ZeroOffline, WriteStamp, StoreMask, TakeActivation}
+use Rattle.xp_protocol.specs.declared.rule.PeerRule.TheVariants.{AskActivation, TakeFlags, CloseArea, ZeroMagic, ClearOldBit, Prepare, OpenArea, SetEngagementBit, ReadRecord, StoreEcho, StoreSecond, ClearEngagementBit, LookAtPage, CheckBeat, ClearDeactivationBit, TellPartner}
+use Rattle.xp_protocol.specs.declared.rule.OwnRule.TheVariants.{ReadEngaged, TakeDeactivation, ReadStamp, ZeroMask, ZeroOffline, WriteStamp, StoreMask, TakeActivation, StoreBeat, StoreOffline}
 use Rattle.xp_protocol.specs.declared.rule.Rule.{Rule}
 use Rattle.xp_protocol.specs.declared.rule.Rule.TheVariants.{Link, Peer as ForPeer, Own}
 use Rattle.xp_protocol.specs.Effects.{Effect, just, and_then, Note}
@@ -76,11 +76,11 @@ module _ (c : ℕ) (lc : c < 4) where
     stands : Half (link_at p.links c) []
     stands = whole (link_at p.links c) [] (old, tt)
 
-    meets : (z : Peer) → z.links ≡ p.links → In (try_contact y.stamp z)
+    meets : (z : Peer) → z.links ≡ p.links → In (try_contact y.turn y.stamp z)
     meets z e =
         let now : StrongAt (link_at z.links c) = subst (λ (ls : List End). StrongAt (link_at ls c)) (sym e) old in
         let j = link_joined z.both_new (contact_of y.stamp z.engage) (link_at z.links c) in
-        cond_in (z.engage.second && (z.engage.shown && not (is_some z.contact))) (contact_made y.stamp z) (same_peer z)
+        cond_in (z.engage.second && (z.engage.shown && not (is_some z.contact))) (contact_made y.turn y.stamp z) (same_peer z)
         (links_framed Half (λ c e. link_joined z.both_new (contact_of y.stamp z.engage) e) (record z { contact = Some (contact_of y.stamp z.engage) }) c (ap length e ∙ n) lc (whole j.local j.notes (joins z.both_new (contact_of y.stamp z.engage) (link_at z.links c) now)))
         (whole (link_at z.links c) [] (now, tt))
 
@@ -109,6 +109,7 @@ module _ (c : ℕ) (lc : c < 4) where
     peered StoreEcho w k = stands
     peered ClearEngagementBit w k = stands
     peered LookAtPage w k = cond_in (eqb (length (p.paging ++ w ∷ [])) 5) _ _ stands stands
+    peered CheckBeat w k = stands
     peered ClearDeactivationBit w k = stands
     peered TellPartner w k = stands
 
@@ -121,9 +122,9 @@ module _ (c : ℕ) (lc : c < 4) where
       by true = stands
       by false = stands
 
-    failed : (mark : Option CopyMark) (reason : Option Reason) → In (record { local = peer_failed mark p; reason = reason; notes = λ c. [] })
-    failed None reason = stands
-    failed (Some mark) reason = stands
+    failed : (turn : ℕ) (mark : Option CopyMark) (reason : Option Reason) → In (record { local = peer_failed turn mark p; reason = reason; notes = λ c. [] })
+    failed turn None reason = stands
+    failed turn (Some mark) reason = stands
 
 numbered_four : (mark : Option CopyMark) (p : Peer) → length p.links ≡ 4 → length (peer_numbered mark p).links ≡ 4
 numbered_four None p n = n
@@ -159,7 +160,7 @@ module _ (su : ScenarioPart) (st : State) (h : Strongs su.count su.part st) wher
       (λ e. peered c lc (here_of su st j) (peer_numbered mark (peer_of st j)) (numbered_four mark (peer_of st j) (h.all.channels j)) (numbered_strong mark (peer_of st j) c (subst (λ (x : ℕ). StrongAt (end_of st x c)) (sym e) (h.ends q c lq nq lc))) m w (numbered_clean mark (peer_of st j) (clean j can.1.0))) (λ o. old q c lq nq lc)
   ruled clean (ForPeer j m) Failed can q c lq nq lc =
       peer_frame Half su st j m Failed q c h.all can.1.0.low
-      (λ e. failed c lc (here_of su st j) (peer_of st j) (h.all.channels j) (subst (λ (x : ℕ). StrongAt (end_of st x c)) (sym e) (h.ends q c lq nq lc)) (mark_of su st (ForPeer j m)) None) (λ o. old q c lq nq lc)
+      (λ e. failed c lc (here_of su st j) (peer_of st j) (h.all.channels j) (subst (λ (x : ℕ). StrongAt (end_of st x c)) (sym e) (h.ends q c lq nq lc)) (here_of su st j).turn (mark_of su st (ForPeer j m)) None) (λ o. old q c lq nq lc)
   ruled clean (Own ReadEngaged) (Word w) can q c lq nq lc = peers_framed Half (peer_read w) st.peers q c h.all lq (freed c lc (here_of su st q) (peer_at st.peers q) (h.all.channels q) (h.ends q c lq nq lc) w q)
   ruled clean (Own TakeDeactivation) (Word w) can q c lq nq lc = peers_framed Half (deactivation_heard w) st.peers q c h.all lq (told c lc (here_of su st q) (peer_at st.peers q) (h.all.channels q) (h.ends q c lq nq lc) w q)
   ruled clean (Own ReadStamp) (Word w) can q c lq nq lc = old q c lq nq lc
@@ -168,6 +169,8 @@ module _ (su : ScenarioPart) (st : State) (h : Strongs su.count su.part st) wher
   ruled clean (Own WriteStamp) (Word w) can q c lq nq lc = old q c lq nq lc
   ruled clean (Own StoreMask) (Word w) can q c lq nq lc = old q c lq nq lc
   ruled clean (Own TakeActivation) (Word w) can q c lq nq lc = old q c lq nq lc
+  ruled clean (Own StoreBeat) (Word w) can q c lq nq lc = old q c lq nq lc
+  ruled clean (Own StoreOffline) (Word w) can q c lq nq lc = old q c lq nq lc
   ruled clean (Own m) Failed can q c lq nq lc = old q c lq nq lc
 
   -- acts

@@ -29,7 +29,7 @@ use Rattle.xp_protocol.specs.Sending.{Send as Sendable, ring_effect, link_refusa
 use Rattle.xp_protocol.specs.State.{State, End, Peer, Size, Old, cold_peer, idle_end, peer_at, link_at, end_at, set_link, set_end, state_by, both_complete, link_of, end_of}
 use Rattle.xp_protocol.specs.Linking.{by_send, link_can, acknowledged}
 use Rattle.xp_protocol.specs.Rules.{Can, mark_of, place_for, link_answered, after_answer, op_of}
-use Rattle.xp_protocol.specs.Acts.{Aim, EndName, first_of, too_long, limit_of, limit_by, registered_limit, refused_send, send_begun, end_begun, end_answered, named_end, upcoming, current, due, due_to, send_logged, aim_of, aim_by, aimed, with_aim, after_act, command_begun, end_noticed, is_accepted, must_answer}
+use Rattle.xp_protocol.specs.Acts.{Aim, EndName, first_of, too_long, limit_of, limit_by, registered_limit, refused_send, send_begun, end_begun, end_answered, named_end, upcoming, current, due, due_to, send_logged, aim_of, aim_by, aimed, with_aim, after_act, command_begun, end_noticed, is_stored, must_answer}
 use Rattle.xp_protocol.specs.Runs.{MayStep, after_ruled, after_step}
 use Rattle.xp_protocol.proofs.Lawful.{lawful_command}
 use Rattle.xp_protocol.proofs.Named.{IsNamed, named_low}
@@ -227,7 +227,7 @@ due_send su st q c payload wait notify d e = λ i. cond (d i) (due_to su st (e i
 
 pub unaccepted : (su : ScenarioPart) (st : State) → must_answer su st ≡ false → Unaccepted su st
 unaccepted su st calm q c payload wait notify d e n k =
-    let t : must_answer su st ≡ true = ap (λ (o : Option LogAnswer). is_accepted o) (due_send su st q c payload wait notify d e ∙ ap (λ (o : Option SendAnswer). send_logged o) k) in
+    let t : must_answer su st ≡ true = ap (λ (o : Option LogAnswer). is_stored o) (due_send su st q c payload wait notify d e ∙ ap (λ (o : Option SendAnswer). send_logged o) k) in
     absurd (cc)
 
 module _ (su : ScenarioPart) (law : IsLawfulPart su) (st : State) (h : Ordered su.count st) where

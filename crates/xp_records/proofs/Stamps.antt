@@ -15,7 +15,7 @@ use Rattle.xp_script.specs.declared.part.ScenarioPart.{ScenarioPart}
 use Rattle.xp_script.specs.declared.scenario.Scenario.{Scenario}
 use Rattle.xp_script.specs.Lawful.{IsLawful}
 use Rattle.xp_script.specs.Parts.{part_of, links_of}
-use Rattle.xp_protocol.specs.declared.rule.OwnRule.TheVariants.{ReadEngaged, TakeDeactivation, ReadStamp, ZeroMask, ZeroOffline, WriteStamp, StoreMask, TakeActivation}
+use Rattle.xp_protocol.specs.declared.rule.OwnRule.TheVariants.{ReadEngaged, TakeDeactivation, ReadStamp, ZeroMask, ZeroOffline, WriteStamp, StoreMask, TakeActivation, StoreBeat, StoreOffline}
 use Rattle.xp_protocol.specs.declared.rule.Rule.{Rule}
 use Rattle.xp_protocol.specs.declared.rule.Rule.TheVariants.{Link, Peer as ForPeer, Own}
 use Rattle.xp_protocol.specs.Acts.{MayAct, Aim, aimed, with_aim, after_act}
@@ -125,6 +125,8 @@ module _ (s : Scenario) (law : IsLawful s) where
     rule_young (Own ZeroOffline) can = calm (Own ZeroOffline) (λ e. absurd (cc)) (record { low = old.low; halted = old.halted })
     rule_young (Own StoreMask) can = calm (Own StoreMask) (λ e. absurd (cc)) (record { low = old.low; halted = old.halted })
     rule_young (Own TakeActivation) can = calm (Own TakeActivation) (λ e. absurd (cc)) (record { low = old.low; halted = old.halted })
+    rule_young (Own StoreBeat) can = calm (Own StoreBeat) (λ e. absurd (cc)) (record { low = old.low; halted = old.halted })
+    rule_young (Own StoreOffline) can = calm (Own StoreOffline) (λ e. absurd (cc)) (record { low = old.low; halted = old.halted })
     rule_young (Own ReadStamp) can = calm (Own ReadStamp) (λ e. absurd (cc)) (record { low = lows (ltb word 4294967295); halted = halts (ltb word 4294967295) (λ f. high f) }) where
       booting : word + 1 ≤ st.clock.boots
       booting = subst (λ (y : Life). stamp_of y word ≤ st.clock.boots) can.0 old.low

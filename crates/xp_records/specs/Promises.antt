@@ -6,6 +6,7 @@ use Rattle.xp_script.specs.declared.scenario.Scenario.{Scenario}
 use Rattle.xp_protocol.specs.Promised.{Guarded, LinePrefix, NamePrefix, NothingRefused, Notices, Reuse}
 use Rattle.xp_records.specs.Answers.{SendAnswers}
 use Rattle.xp_records.specs.Clean.{Clean}
+use Rattle.xp_records.specs.Missed.{HeartbeatsMissed}
 use Rattle.xp_records.specs.Names.{NamesOnce}
 use Rattle.xp_records.specs.Noticed.{DeliveredAcknowledged, NoticesRecorded}
 
@@ -35,3 +36,6 @@ pub record Promises (s : Scenario) (h : List Event) (m : Memory) : Type 0 where
   -- no reason that refuses a word or a version stands anywhere, in no record and in no answer; and
   -- no partition halts
   pub clean : Clean s h
+  -- a partner is to be deactivated for a missed heartbeat only by a check that was over in that
+  -- turn, and for the words that it read
+  pub heartbeats_missed : HeartbeatsMissed s h

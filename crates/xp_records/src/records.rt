@@ -51,7 +51,8 @@ pub fn sends_answered()
 /// are reused only after an acknowledgement, and no channel memory is touched without the own
 /// engagement bit there; sends are answered for their causes, notices are told once; and nothing
 /// that was read is refused: no reason that refuses a word or a version stands at a partner or an
-/// end, in a record or in an answer, and no partition halts.
+/// end, in a record or in an answer, and no partition halts. A partner is to be deactivated for a
+/// missed heartbeat only by a check of it, and for the words that it read.
 pub fn all_promised()
     ensures { (s : Scenario) → IsLawful s →
         (h : List Event) (m : Memory) → ReachedWords s h m → Promises s h m }

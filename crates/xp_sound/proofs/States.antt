@@ -13,7 +13,7 @@ use Rattle.xp_script.specs.declared.part.Link.{Link}
 use Rattle.xp_script.specs.declared.part.ScenarioPart.{ScenarioPart}
 use Rattle.xp_protocol.specs.declared.rule.LinkRule.TheVariants.{Ring}
 use Rattle.xp_protocol.specs.declared.rule.RingRule.TheVariants.{AcceptMessage}
-use Rattle.xp_protocol.specs.declared.rule.OwnRule.TheVariants.{ReadEngaged, TakeDeactivation, ReadStamp, ZeroMask, ZeroOffline, WriteStamp, StoreMask, TakeActivation}
+use Rattle.xp_protocol.specs.declared.rule.OwnRule.TheVariants.{ReadEngaged, TakeDeactivation, ReadStamp, ZeroMask, ZeroOffline, WriteStamp, StoreMask, TakeActivation, StoreBeat, StoreOffline}
 use Rattle.xp_protocol.specs.declared.rule.Rule.{Rule}
 use Rattle.xp_protocol.specs.declared.rule.Rule.TheVariants.{Link as ForLink, Peer as ForPeer, Own}
 use Rattle.xp_protocol.specs.Parts.{IsLawfulPart, IsLawfulCommand, AreLawfulLinks}
@@ -41,7 +41,7 @@ sound_end : (e : End) → IsConsistentEnd e → IsSoundEnd e
 sound_end e h = record { send = λ c. h.send.sending; pull = λ c. h.pull; order = h.order.complete; closing = h.order.reply }
 
 pub sound : (s : ScenarioPart) (st : State) → IsConsistent s st → IsSound s st
-sound s st h = record { few = h.few; peers = λ q l. record { page = (h.peers q).page; words = (h.peers q).words; ends = λ c k. sound_end (link_at (peer_of st q).links c) ((h.peers q).ends c) } }
+sound s st h = record { few = h.few; peers = λ q l. record { page = (h.peers q).page; beat = (h.peers q).check; words = (h.peers q).words; ends = λ c k. sound_end (link_at (peer_of st q).links c) ((h.peers q).ends c) } }
 
 -- ---- as many partners as before
 as_few : (n : ℕ) (xs ys : List Peer) → length ys ≡ length xs → length xs ≤ n → length ys ≤ n
@@ -70,6 +70,8 @@ module _ (s : ScenarioPart) (st : State) (h : IsConsistent s st) where
   rule_few (Own WriteStamp) (Word w) = refl
   rule_few (Own StoreMask) (Word w) = refl
   rule_few (Own TakeActivation) (Word w) = refl
+  rule_few (Own StoreBeat) (Word w) = refl
+  rule_few (Own StoreOffline) (Word w) = refl
   rule_few (Own m) Failed = refl
 
   rule_peers : AllTold s st → (r : Rule) (a : Answer) → Can s st r → (q : ℕ) → IsConsistentPeer (peer_of (after_answer s st r a) q)
@@ -80,7 +82,7 @@ module _ (s : ScenarioPart) (st : State) (h : IsConsistent s st) where
   rule_peers told (ForPeer k m) (Word w) can q =
       let mark = mark_of s st (ForPeer k m) in
       at_peer IsConsistentPeer st.peers k _ q (λ e. peered (here_of s st k) (peer_numbered mark (peer_of st k)) m w (numbered mark (peer_of st k) (h.peers k))) (h.peers q)
-  rule_peers told (ForPeer k m) Failed can q = at_peer IsConsistentPeer st.peers k _ q (λ e. failed (mark_of s st (ForPeer k m)) (peer_of st k) (h.peers k)) (h.peers q)
+  rule_peers told (ForPeer k m) Failed can q = at_peer IsConsistentPeer st.peers k _ q (λ e. failed (here_of s st k).turn (mark_of s st (ForPeer k m)) (peer_of st k) (h.peers k)) (h.peers q)
   rule_peers told (Own ReadEngaged) (Word w) can q = at_each IsConsistentPeer (λ i p. (peer_read w i p).local) st.peers q (cold_peer Old) (freed w q (peer_of st q) (h.peers q)) (λ l. cold_consistent Old)
   rule_peers told (Own TakeDeactivation) (Word w) can q = at_each IsConsistentPeer (λ i p. (deactivation_heard w i p).local) st.peers q (cold_peer Old) (told_off w q (peer_of st q) (h.peers q)) (λ l. cold_consistent Old)
   rule_peers told (Own ReadStamp) (Word w) can q = h.peers q
@@ -89,6 +91,8 @@ module _ (s : ScenarioPart) (st : State) (h : IsConsistent s st) where
   rule_peers told (Own WriteStamp) (Word w) can q = h.peers q
   rule_peers told (Own StoreMask) (Word w) can q = h.peers q
   rule_peers told (Own TakeActivation) (Word w) can q = h.peers q
+  rule_peers told (Own StoreBeat) (Word w) can q = h.peers q
+  rule_peers told (Own StoreOffline) (Word w) can q = h.peers q
   rule_peers told (Own m) Failed can q = h.peers q
 
   pub step_keeps : AllTold s st → (r : Rule) (a : Answer) → Can s st r → IsConsistent s (after_answer s st r a)
@@ -177,6 +181,7 @@ first_few n ls = length-replicate {A = Peer} n (base_peer ls)
 warm_peer_consistent : (s : ScenarioPart) (new : Bool) (l : Link) (p : Peer) → AreLawfulLinks s (l ∷ []) → IsConsistentPeer p → IsConsistentPeer (warm_peer new l p)
 warm_peer_consistent s new l p k h = record {
   page = h.page;
+  check = h.check;
   words = omega arith;
   ends = λ c. at_slot IsConsistentEnd (each (λ i e. first_met new e) 0 p.links) l.channel c (warm_end new l) idle_end (λ e. warm_consistent new l k.0.1)
       (at_each IsConsistentEnd (λ i e. first_met new e) p.links c idle_end (h.ends c) (λ m. idle_consistent));

@@ -10,7 +10,7 @@ use Rattle.xp_protocol.specs.Parts.{IsRequestSize}
 use Rattle.xp_protocol.specs.Sending.{Sending}
 use Rattle.xp_protocol.specs.Pulling.{Pulling}
 use Rattle.xp_protocol.specs.State.{State, Peer, End, Shake, Size, Reading, link_at, peer_at}
-use Rattle.xp_protocol.specs.Peering.{read_place}
+use Rattle.xp_protocol.specs.Peering.{CHECK_WORDS, read_place}
 use Rattle.xp_plan.specs.Sound.{IsSending, IsPulling}
 
 -- a size is there, and requests may have it
@@ -76,15 +76,16 @@ IsConsistentEnd e =
     IsConsistentBy e.registration (flagged e.shake) e.sides.send e.sides.pull
     e.sides.pending_notices
 
--- a partner: a copy of its page or its record that goes on has loads left
-pub record IsConsistentWith (paging : List ℕ) (reading : Option Reading) (links : List End)
+-- a partner: a copy of its page, its heartbeat or its record that goes on has loads left
+pub record IsConsistentWith (paging beat : List ℕ) (reading : Option Reading) (links : List End)
     : Type 0 where
   pub page : length paging < 5
+  pub check : length beat < CHECK_WORDS
   pub words : read_place reading < RECORD_WORDS
   pub ends : (c : ℕ) → IsConsistentEnd (link_at links c)
 
 abbrev pub IsConsistentPeer : Peer → Type 0
-IsConsistentPeer p = IsConsistentWith p.paging p.engage.reading p.links
+IsConsistentPeer p = IsConsistentWith p.paging p.watch.words p.engage.reading p.links
 
 -- all partners, of which there are as many as partitions at most
 pub record AreConsistent (count : ℕ) (all : List Peer) : Type 0 where

@@ -9,7 +9,7 @@ use Rattle.xp_base.specs.declared.step.CopyMark.{CopyMark}
 use Rattle.xp_script.specs.declared.part.ScenarioPart.{ScenarioPart}
 use Rattle.xp_protocol.specs.declared.rule.LinkRule.{LinkRule}
 use Rattle.xp_protocol.specs.declared.rule.PeerRule.{PeerRule}
-use Rattle.xp_protocol.specs.declared.rule.PeerRule.TheVariants.{AskActivation, TakeFlags, CloseArea, ZeroMagic, ClearOldBit, Prepare, OpenArea, SetEngagementBit, ReadRecord, StoreEcho, StoreSecond, ClearEngagementBit, LookAtPage, ClearDeactivationBit, TellPartner}
+use Rattle.xp_protocol.specs.declared.rule.PeerRule.TheVariants.{AskActivation, TakeFlags, CloseArea, ZeroMagic, ClearOldBit, Prepare, OpenArea, SetEngagementBit, ReadRecord, StoreEcho, StoreSecond, ClearEngagementBit, LookAtPage, CheckBeat, ClearDeactivationBit, TellPartner}
 use Rattle.xp_protocol.specs.declared.rule.OwnRule.{OwnRule}
 use Rattle.xp_protocol.specs.declared.rule.OwnRule.TheVariants as owns
 use Rattle.xp_protocol.specs.declared.rule.Rule.{Rule}
@@ -40,7 +40,7 @@ use Rattle.xp_steps.specs.Stepping.{CanStep, HasSession}
 use Rattle.xp_steps.proofs.Counts.{unmarked_for, begun_low}
 
 -- counts
-counted_below : (n : ℕ) → n ≤ 2 ^ 63 → n < 2 ^ 64 - 1
+pub counted_below : (n : ℕ) → n ≤ 2 ^ 63 → n < 2 ^ 64 - 1
 counted_below n h = let e : 2 ^ 63 ≡ 9223372036854775808 = refl in let f : 2 ^ 64 ≡ 18446744073709551616 = refl in omega (arith, h, e, f)
 
 pub copies_low : (x : Keeping) (rule : Rule) → CanStep x rule → (kind : CopyKind) → begun_of kind x.clock.copies < 2 ^ 64 - 1
@@ -150,6 +150,7 @@ storable_by y p StoreEcho st q x e f can session = tt
 storable_by y p StoreSecond st q x e f can session = tt
 storable_by y p ClearEngagementBit st q x e f can session = tt
 storable_by y p LookAtPage st q x e f can session = tt
+storable_by y p CheckBeat st q x e f can session = tt
 storable_by y p ClearDeactivationBit st q x e f can session = tt
 storable_by y p TellPartner st q x e f can session = tt
 
@@ -184,6 +185,7 @@ peer_lives StoreEcho h = cc
 peer_lives StoreSecond h = cc
 peer_lives ClearEngagementBit h = cc
 peer_lives LookAtPage h = cc
+peer_lives CheckBeat h = cc
 peer_lives ClearDeactivationBit h = cc
 peer_lives TellPartner h = cc
 
@@ -196,6 +198,8 @@ own_lives owns.ZeroOffline h = cc
 own_lives owns.WriteStamp h = cc
 own_lives owns.StoreMask h = cc
 own_lives owns.TakeActivation h = cc
+own_lives owns.StoreBeat h = cc
+own_lives owns.StoreOffline h = cc
 
 never_halted : (r : Rule) → life_for r ≡ Halted → ⊥
 never_halted (Link q c m) h = cc

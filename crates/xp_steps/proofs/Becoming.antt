@@ -6,7 +6,7 @@ use Rattle.xp_base.specs.declared.step.Answer.{Answer}
 use Rattle.xp_script.specs.declared.part.ScenarioPart.{ScenarioPart}
 use Rattle.xp_protocol.specs.declared.rule.Rule.{Rule}
 use Rattle.xp_protocol.specs.Effects.{Note, with_notes}
-use Rattle.xp_protocol.specs.State.{Peer, End, Clock, Old, cold_peer, peer_at}
+use Rattle.xp_protocol.specs.State.{Peer, End, Beats, Clock, Old, cold_peer, peer_at}
 use Rattle.xp_protocol.specs.Rules.{after_answer, peers_after, noted_rule}
 use Rattle.xp_channel.specs.Channel.{Channel}
 use Rattle.xp_discover.specs.Booting.{Starting}
@@ -46,18 +46,18 @@ peers_are s stamp mask peers notes xs ys h = ext_get_or (cold_peer Old) (map pee
     (length-map ys peer_seen ∙ h.count ∙ sym h.known)
     (λ i k. seen_at ys i ∙ (h.each i (subst (λ (n : ℕ). i < n) (length-map ys peer_seen ∙ h.count) k)).seen)
 
-pub becomes_stepped : (x : Keeping) (life : KeptLife) (boot : Starting) (stamp mask : ℕ) (clock : Clock) (ps : Partners) (rule : Rule) (a : Answer) → IsKept x
-    → AllBecome x.part stamp mask (peers_after x.part (state_of x) rule a) (noted_rule x.part (state_of x) rule a) x.partners.list ps.list
-    → ((qs : List Peer) → record (state_of (record x { life = life; boot = boot; stamp = stamp; mask = mask; clock = clock; partners = ps })) { peers = qs } ≡ record (after_answer x.part (state_of x) rule a) { peers = qs })
+pub becomes_stepped : (x : Keeping) (life : KeptLife) (boot : Starting) (stamp : ℕ) (beat : Beats) (clock : Clock) (ps : Partners) (rule : Rule) (a : Answer) → IsKept x
+    → AllBecome x.part stamp beat.mask (peers_after x.part (state_of x) rule a) (noted_rule x.part (state_of x) rule a) x.partners.list ps.list
+    → ((qs : List Peer) → record (state_of (record x { life = life; boot = boot; stamp = stamp; beat = beat; clock = clock; partners = ps })) { peers = qs } ≡ record (after_answer x.part (state_of x) rule a) { peers = qs })
     → boot.own ≡ x.boot.own → boot.count ≡ x.boot.count → (life ≡ KeptBooting → IsBooted x.part boot ps)
     → LeavesUntouched x.partners ps
-    → IsStepped x rule a (record x { life = life; boot = boot; stamp = stamp; mask = mask; clock = clock; partners = ps })
-becomes_stepped x life boot stamp mask clock ps rule a k all rest own count booted untouched =
-    let y : Keeping = record x { life = life; boot = boot; stamp = stamp; mask = mask; clock = clock; partners = ps } in
+    → IsStepped x rule a (record x { life = life; boot = boot; stamp = stamp; beat = beat; clock = clock; partners = ps })
+becomes_stepped x life boot stamp beat clock ps rule a k all rest own count booted untouched =
+    let y : Keeping = record x { life = life; boot = boot; stamp = stamp; beat = beat; clock = clock; partners = ps } in
     let low : (q : ℕ) → q < x.part.count → q < length x.partners.list = λ q l. subst (λ (n : ℕ). q < n) (sym k.count) l in
     let peers = peers_after x.part (state_of x) rule a in
     record {
-      state = ap (λ (qs : List Peer). record (state_of y) { peers = qs }) (peers_are x.part stamp mask peers (noted_rule x.part (state_of x) rule a) x.partners.list ps.list all) ∙ rest peers;
+      state = ap (λ (qs : List Peer). record (state_of y) { peers = qs }) (peers_are x.part stamp beat.mask peers (noted_rule x.part (state_of x) rule a) x.partners.list ps.list all) ∙ rest peers;
       records = λ q c l m. (all.each q (low q l)).records c m;
       part = refl;
       kept = record {

@@ -171,8 +171,8 @@ module _ (x : Keeping) (q turns w : ℕ) (ps : Partners) (l : x.life ≡ lives.B
       → IsStepped x (ForPeer q m) (Word w) (record x { boot = boot; partners = ps })
   booted_by m boot h e k same own count booted rest =
       let g = effect_for x.part (state_of x) q (mark_of x.part (state_of x) (ForPeer q m)) m (Word w) in
-      becomes_stepped x x.life boot x.stamp x.mask x.clock ps (ForPeer q m) (Word w) h.kept
-      (one_becomes x.part x.stamp x.mask x.partners.list ps.list q (with_reason g.reason g.local) (noted_rule x.part (state_of x) (ForPeer q m) (Word w)) (peer_within x q m h) one.list
+      becomes_stepped x x.life boot x.stamp x.beat x.clock ps (ForPeer q m) (Word w) h.kept
+      (one_becomes x.part x.stamp x.beat.mask x.partners.list ps.list q (with_reason g.reason g.local) (noted_rule x.part (state_of x) (ForPeer q m) (Word w)) (peer_within x q m h) one.list
       (stands x h.kept)
       (peer_becomes x q (turns + 1) m None (Word w) (partner_at ps.list q) h.kept (peer_partner x q m h) turn e k)
       (noted_others x q m (Word w)))
@@ -275,9 +275,9 @@ halted_only false w v e = cc
 module _ (x : Keeping) (l : x.life ≡ lives.Booting) where
   goes_on : (m : OwnRule) (w : ℕ) (boot : Starting) → CanStep x (Own m) → boot.own ≡ x.boot.own → boot.count ≡ x.boot.count → IsBooted x.part boot x.partners
       → ((qs : List Peer) → record (state_of x) { boot = boot_seen x.life boot.boot; peers = qs } ≡ record (after_answer x.part (state_of x) (Own m) (Word w)) { peers = qs })
-      → AllBecome x.part x.stamp x.mask (peers_after x.part (state_of x) (Own m) (Word w)) (noted_rule x.part (state_of x) (Own m) (Word w)) x.partners.list x.partners.list
+      → AllBecome x.part x.stamp x.beat.mask (peers_after x.part (state_of x) (Own m) (Word w)) (noted_rule x.part (state_of x) (Own m) (Word w)) x.partners.list x.partners.list
       → IsStepped x (Own m) (Word w) (record x { boot = boot })
-  goes_on m w boot h own count booted rest all = becomes_stepped x x.life boot x.stamp x.mask x.clock x.partners (Own m) (Word w) h.kept all rest own count (λ i. booted) (no_change x.partners)
+  goes_on m w boot h own count booted rest all = becomes_stepped x x.life boot x.stamp x.beat x.clock x.partners (Own m) (Word w) h.kept all rest own count (λ i. booted) (no_change x.partners)
 
   -- what was done of the boot is kept
   seen_now : (f : Boot → Boot) → boot_seen x.life (f x.boot.boot) ≡ f (boot_seen x.life x.boot.boot)
@@ -286,8 +286,8 @@ module _ (x : Keeping) (l : x.life ≡ lives.Booting) where
   as_before : (b : Boot) → IsBooted x.part x.boot x.partners → IsBooted x.part (record x.boot { boot = b }) x.partners
   as_before b k = record { going = k.going; order = k.order; zeroed = k.zeroed; cleared = k.cleared }
 
-  same_peers : IsKept x → AllBecome x.part x.stamp x.mask (map peer_seen x.partners.list) (λ q c. []) x.partners.list x.partners.list
-  same_peers k = all_same x.part x.stamp x.mask x.partners.list (stands x k)
+  same_peers : IsKept x → AllBecome x.part x.stamp x.beat.mask (map peer_seen x.partners.list) (λ q c. []) x.partners.list x.partners.list
+  same_peers k = all_same x.part x.stamp x.beat.mask x.partners.list (stands x k)
 
   read_on : (w : ℕ) → CanStep x (Own ReadStamp) → nat_lt w 4294967295 ≡ true → IsStepped x (Own ReadStamp) (Word w) (record x { boot = record x.boot { boot = record x.boot.boot { read = Some w } } })
   read_on w h e = goes_on ReadStamp w (record x.boot { boot = record x.boot.boot { read = Some w } }) h refl refl (as_before (record x.boot.boot { read = Some w }) (h.kept.boot l))
@@ -349,8 +349,8 @@ went_down x m w v boot answer h l e a some = by n.step n.comes n.ruled where
   answered p f = ap (λ (o : Option BootStep). boot_answer x.boot o w) (sym f) ∙ sym a ∙ some
 
   halted : CanStep x (Own ReadStamp) → nat_lt w 4294967295 ≡ false → IsStepped x (Own ReadStamp) (Word w) (record x { boot = record x.boot { over = true }; life = lives.Halted w })
-  halted k f = becomes_stepped x (lives.Halted w) (record x.boot { over = true }) x.stamp x.mask x.clock x.partners (Own ReadStamp) (Word w) k.kept
-      (all_same x.part x.stamp x.mask x.partners.list (stands x k.kept))
+  halted k f = becomes_stepped x (lives.Halted w) (record x.boot { over = true }) x.stamp x.beat x.clock x.partners (Own ReadStamp) (Word w) k.kept
+      (all_same x.part x.stamp x.beat.mask x.partners.list (stands x k.kept))
       (λ qs. ap (λ (b : Boot). record (state_of x) { life = Halted; boot = record b { read = Some w }; peers = qs }) (sym (boot_kept x.life x.boot.boot l))
       ∙ ap (λ (t : Bool). record (state_of x) { life = if t then life_seen x.life else Halted; boot = record (boot_seen x.life x.boot.boot) { read = Some w }; peers = qs }) (sym f))
       refl refl (λ i. absurd (cc)) (no_change x.partners)
@@ -387,8 +387,8 @@ went_up x m w stamp boot answer ps h l e a some told = by n.step n.comes n.ruled
   stamp_is s k = cc
 
   up : CanStep x (Own WriteStamp) → or_zero x.boot.boot.read + 1 ≡ stamp → IsStepped x (Own WriteStamp) (Word w) (record x { life = lives.Up; boot = first_start x.part.part x.part.count; stamp = stamp; partners = ps })
-  up k s = becomes_stepped x lives.Up (first_start x.part.part x.part.count) stamp x.mask x.clock ps (Own WriteStamp) (Word w) k.kept
-      (all_told x.part x.stamp x.mask (Stamp stamp) x.partners ps (stands x k.kept) told)
+  up k s = becomes_stepped x lives.Up (first_start x.part.part x.part.count) stamp x.beat x.clock ps (Own WriteStamp) (Word w) k.kept
+      (all_told x.part x.stamp x.beat.mask (Stamp stamp) x.partners ps (stands x k.kept) told)
       (λ qs. ap (λ (i : ℕ). record (state_of x) { life = Up; boot = no_boot; stamp = i; peers = qs })
       (sym s ∙ ap (λ (b : Boot). or_zero b.read + 1) (sym (boot_kept x.life x.boot.boot l))))
       (sym k.kept.own) (sym k.kept.partitions) (λ i. absurd (cc)) told.untouched

@@ -64,11 +64,11 @@ module _ (x : Keeping) (q c : ℕ) (m : LinkRule) (mark : Option CopyMark) (a : 
   abbrev old : Partner
   old = partner_at x.partners.list q
 
-  stands : IsStanding s x.stamp x.mask q old.standing
+  stands : IsStanding s x.stamp x.beat.mask q old.standing
   stands = h.kept.standing q (link_partner x q c m h)
 
   names : AreNamed s.part q old.channels
-  names = named_as s x.stamp x.mask q old stands k.names
+  names = named_as s x.stamp x.beat.mask q old stands k.names
 
   low : c < CHANNELS
   low = link_channel x q c m h
@@ -123,17 +123,18 @@ module _ (x : Keeping) (q c : ℕ) (m : LinkRule) (mark : Option CopyMark) (a : 
       ap (λ (b : Bool). if b then (if nat_eq c d then (effect_at s st q c m a).notes else []) else []) (eq-eqb q q refl)
       ∙ ap (λ (b : Bool). if b then (effect_at s st q c m a).notes else []) (ne_eqb c d (λ f. n (sym f)))
 
-  becomes : Becomes s x.stamp x.mask q (peer_linked s st q c m a) (λ d. noted_rule s st (Link q c m) a q d) old y
+  becomes : Becomes s x.stamp x.beat.mask q (peer_linked s st q c m a) (λ d. noted_rule s st (Link q c m) a q d) old y
   becomes = record {
     seen = seen;
     records = at_or (λ d. d < CHANNELS → (channel_of y d).records ≡ with_notes q d (noted_rule s st (Link q c m) a q d) (channel_of old d).records) c
         (λ l. here ∙ ap (λ (ns : List Note). with_notes q c ns (channel_of old c).records) (sym noted_here))
         (λ d n l. other d n ∙ ap (λ (ns : List Note). with_notes q d ns (channel_of old d).records) (sym (noted_other d n)));
-    standing = subst (λ (z : Standing). IsStanding s x.stamp x.mask q z) (sym (ap (λ (z : Partner). z.standing) k.whole)) (record {
+    standing = subst (λ (z : Standing). IsStanding s x.stamp x.beat.mask q z) (sym (ap (λ (z : Partner). z.standing) k.whole)) (record {
       own = stands.own;
       partner = stands.partner;
       version = stands.version;
       wait = stands.wait;
+      checked = stands.checked;
       stamped = stands.stamped;
       masked = stands.masked;
     });
@@ -156,8 +157,8 @@ pub link_followed : (x : Keeping) (q c : ℕ) (m : LinkRule) (mark : Option Copy
     → ChangesOne q x.partners ps → IsLinkStepped c m mark a (partner_at x.partners.list q) (partner_at ps.list q)
     → IsStepped x (Link q c m) a (record x { clock = clock; partners = ps })
 link_followed x q c m mark a mid clock ps h e f g one k =
-    becomes_stepped x x.life x.boot x.stamp x.mask clock ps (Link q c m) a h.kept
-    (one_becomes x.part x.stamp x.mask x.partners.list ps.list q (peer_linked x.part (state_of x) q c m a) (noted_rule x.part (state_of x) (Link q c m) a) (link_within x q c m h) one.list
+    becomes_stepped x x.life x.boot x.stamp x.beat clock ps (Link q c m) a h.kept
+    (one_becomes x.part x.stamp x.beat.mask x.partners.list ps.list q (peer_linked x.part (state_of x) q c m a) (noted_rule x.part (state_of x) (Link q c m) a) (link_within x q c m h) one.list
     (λ i l. h.kept.standing i (subst (λ (n : ℕ). i < n) h.kept.count l))
     (becomes x q c m mark a (partner_at ps.list q) h e k)
     (noted_apart x q c m mark a (partner_at ps.list q) h e k))

@@ -8,7 +8,7 @@ use Rattle.xp_base.specs.declared.step.Answer.{Answer}
 use Rattle.xp_base.specs.declared.step.Answer.TheVariants.{Word, Failed}
 use Rattle.xp_base.specs.declared.step.CopyMark.{CopyMark}
 use Rattle.xp_protocol.specs.declared.rule.PeerRule.{PeerRule}
-use Rattle.xp_protocol.specs.declared.rule.PeerRule.TheVariants.{AskActivation, TakeFlags, CloseArea, ZeroMagic, ClearOldBit, Prepare, OpenArea, SetEngagementBit, ReadRecord, StoreEcho, StoreSecond, ClearEngagementBit, LookAtPage, ClearDeactivationBit, TellPartner}
+use Rattle.xp_protocol.specs.declared.rule.PeerRule.TheVariants.{AskActivation, TakeFlags, CloseArea, ZeroMagic, ClearOldBit, Prepare, OpenArea, SetEngagementBit, ReadRecord, StoreEcho, StoreSecond, ClearEngagementBit, LookAtPage, CheckBeat, ClearDeactivationBit, TellPartner}
 use Rattle.xp_protocol.specs.State.{Peer, Reading}
 use Rattle.xp_protocol.specs.Peering.{Here, peer_effect, peer_read, deactivation_heard, record_read, try_contact, contact_made, same_peer, area_left_for, area_off, is_left, is_flagged, is_bad_flags, is_magic, is_wrong, has_shown, peer_failed, with_reason}
 use Rattle.xp_protocol.specs.Rules.{peer_numbered, peer_answered}
@@ -25,14 +25,14 @@ flags_four : (y : Here) (w : ℕ) (p : Peer) (b : Bool) → is_bad_flags w ≡ b
 flags_four y w p true e n = rw e n
 flags_four y w p false e n = rw e (length-each _ 0 p.links ∙ n)
 
-contact_four : (t : ℕ) (p : Peer) → HasFour p → HasFour (try_contact t p).local
-contact_four t p n = cond_peer HasFour (p.engage.second && (p.engage.shown && not (is_some p.contact))) (contact_made t p) (same_peer p) (length-each _ 0 p.links ∙ n) n
+contact_four : (k t : ℕ) (p : Peer) → HasFour p → HasFour (try_contact k t p).local
+contact_four k t p n = cond_peer HasFour (p.engage.second && (p.engage.shown && not (is_some p.contact))) (contact_made k t p) (same_peer p) (length-each _ 0 p.links ∙ n) n
 
 read_four : (y : Here) (p : Peer) (o : Option Reading) (w : ℕ) → HasFour p → HasFour (record_read y p o w).local
 read_four y p None w n = cond_peer HasFour (eqb w 0) _ _ n (cond_peer HasFour (is_magic w) _ _ n n)
 read_four y p (Some r) w n =
     cond_peer HasFour (eqb r.done 1) _ _ n (cond_peer HasFour (eqb r.done 2) _ _ n (cond_peer HasFour (eqb r.done 7) _ _
-    (cond_peer HasFour (has_shown y.stamp p.engage r) _ _ (contact_four y.stamp (record p { engage = record p.engage { shown = true; reading = None } }) n) n)
+    (cond_peer HasFour (has_shown y.stamp p.engage r) _ _ (contact_four y.turn y.stamp (record p { engage = record p.engage { shown = true; reading = None } }) n) n)
     (cond_peer HasFour (is_wrong y.part r.done w) _ _ n n)))
 
 effect_four : (y : Here) (p : Peer) (m : PeerRule) (w : ℕ) → HasFour p → HasFour (peer_effect y p m w).local
@@ -46,9 +46,10 @@ effect_four y p OpenArea w n = n
 effect_four y p SetEngagementBit w n = n
 effect_four y p ReadRecord w n = read_four y p p.engage.reading w n
 effect_four y p StoreEcho w n = n
-effect_four y p StoreSecond w n = contact_four y.stamp (record p { engage = record p.engage { second = true } }) n
+effect_four y p StoreSecond w n = contact_four y.turn y.stamp (record p { engage = record p.engage { second = true } }) n
 effect_four y p ClearEngagementBit w n = n
 effect_four y p LookAtPage w n = cond_peer HasFour (eqb (length (p.paging ++ w ∷ [])) 5) _ _ n n
+effect_four y p CheckBeat w n = n
 effect_four y p ClearDeactivationBit w n = n
 effect_four y p TellPartner w n = n
 
@@ -56,13 +57,13 @@ numbered_four : (mark : Option CopyMark) (p : Peer) → HasFour p → HasFour (p
 numbered_four None p n = n
 numbered_four (Some mark) p n = n
 
-failed_four : (mark : Option CopyMark) (p : Peer) → HasFour p → HasFour (peer_failed mark p)
-failed_four None p n = n
-failed_four (Some mark) p n = n
+failed_four : (t : ℕ) (mark : Option CopyMark) (p : Peer) → HasFour p → HasFour (peer_failed t mark p)
+failed_four t None p n = n
+failed_four t (Some mark) p n = n
 
 pub answered_four : (y : Here) (mark : Option CopyMark) (p : Peer) (m : PeerRule) (a : Answer) → length p.links ≡ 4 → length (peer_answered y mark p m a).local.links ≡ 4
 answered_four y mark p m (Word w) n = effect_four y (peer_numbered mark p) m w (numbered_four mark p n)
-answered_four y mark p m Failed n = failed_four mark p n
+answered_four y mark p m Failed n = failed_four y.turn mark p n
 
 pub engaged_four : (w q : ℕ) (p : Peer) → length p.links ≡ 4 → length (peer_read w q p).local.links ≡ 4
 engaged_four w q p n = cond_peer HasFour (is_left p.engage && not (is_flagged w q)) (area_off p) (same_peer p) (length-each _ 0 p.links ∙ n) n

@@ -7,7 +7,7 @@ use Rattle.xp_base.specs.declared.step.Answer.TheVariants.{Word, Failed}
 use Rattle.xp_base.specs.declared.step.CopyMark.{CopyMark}
 use Rattle.xp_script.specs.declared.part.ScenarioPart.{ScenarioPart}
 use Rattle.xp_protocol.specs.declared.rule.PeerRule.{PeerRule}
-use Rattle.xp_protocol.specs.declared.rule.PeerRule.TheVariants.{AskActivation, TakeFlags, CloseArea, ZeroMagic, ClearOldBit, Prepare, OpenArea, SetEngagementBit, ReadRecord, StoreEcho, StoreSecond, ClearEngagementBit, LookAtPage, ClearDeactivationBit, TellPartner}
+use Rattle.xp_protocol.specs.declared.rule.PeerRule.TheVariants.{AskActivation, TakeFlags, CloseArea, ZeroMagic, ClearOldBit, Prepare, OpenArea, SetEngagementBit, ReadRecord, StoreEcho, StoreSecond, ClearEngagementBit, LookAtPage, CheckBeat, ClearDeactivationBit, TellPartner}
 use Rattle.xp_protocol.specs.declared.rule.Rule.{Rule}
 use Rattle.xp_protocol.specs.declared.rule.Rule.TheVariants.{Peer as ForPeer}
 use Rattle.xp_protocol.specs.Effects.{Effect, Note, with_notes}
@@ -55,6 +55,7 @@ effect_same y b p StoreEcho w = refl
 effect_same y b p StoreSecond w = refl
 effect_same y b p ClearEngagementBit w = refl
 effect_same y b p LookAtPage w = refl
+effect_same y b p CheckBeat w = refl
 effect_same y b p ClearDeactivationBit w = refl
 effect_same y b p TellPartner w = refl
 
@@ -62,12 +63,12 @@ answered_same : (y : Here) (b : Bool) (mark : Option CopyMark) (p : Peer) (m : P
 answered_same y b mark p m (Word w) = effect_same y b (peer_numbered mark p) m w
 answered_same y b mark p m Failed = refl
 
-here_same : (part part' version version' turn turn' wait wait' stamp stamp' : ℕ) (masked masked' read : Bool) → part ≡ part' → version ≡ version' → turn ≡ turn' → wait ≡ wait' → masked ≡ masked' → stamp ≡ stamp'
-    → ◌≡◌ {A = Here} (record { part = part; version = version; turn = turn; wait = wait; masked = masked; stamp = stamp; read = read }) (record { part = part'; version = version'; turn = turn'; wait = wait'; masked = masked'; stamp = stamp'; read = read })
-here_same part part' version version' turn turn' wait wait' stamp stamp' masked masked' read a b c d e f = cc
+here_same : (part part' version version' turn turn' wait wait' check check' stamp stamp' : ℕ) (masked masked' read : Bool) → part ≡ part' → version ≡ version' → turn ≡ turn' → wait ≡ wait' → check ≡ check' → masked ≡ masked' → stamp ≡ stamp'
+    → ◌≡◌ {A = Here} (record { part = part; version = version; turn = turn; wait = wait; check = check; masked = masked; stamp = stamp; read = read }) (record { part = part'; version = version'; turn = turn'; wait = wait'; check = check'; masked = masked'; stamp = stamp'; read = read })
+here_same part part' version version' turn turn' wait wait' check check' stamp stamp' masked masked' read a b c d e f g = cc
 
-pub here_is : (x : Keeping) (q turn : ℕ) (y : Standing) → turn ≡ x.clock.turns + 1 → IsStanding x.part x.stamp x.mask q y → here turn y ≡ record (here_of x.part (state_of x) q) { read = true }
-here_is x q turn y t k = here_same _ _ _ _ _ _ _ _ _ _ _ _ true k.own k.version t k.wait k.masked k.stamped
+pub here_is : (x : Keeping) (q turn : ℕ) (y : Standing) → turn ≡ x.clock.turns + 1 → IsStanding x.part x.stamp x.beat.mask q y → here turn y ≡ record (here_of x.part (state_of x) q) { read = true }
+here_is x q turn y t k = here_same _ _ _ _ _ _ _ _ _ _ _ _ _ _ true k.own k.version t k.wait k.checked k.masked k.stamped
 
 abbrev pub effect_for : ScenarioPart → State → ℕ → Option CopyMark → PeerRule → Answer → Effect Peer (ℕ → List Note)
 effect_for s st q mark m a = peer_answered (here_of s st q) mark (peer_of st q) m a
@@ -85,11 +86,11 @@ module _ (x : Keeping) (q turn : ℕ) (m : PeerRule) (mark : Option CopyMark) (a
   abbrev old : Partner
   old = partner_at x.partners.list q
 
-  stands : IsStanding s x.stamp x.mask q old.standing
+  stands : IsStanding s x.stamp x.beat.mask q old.standing
   stands = kept.standing q inside
 
   names : AreNamed s.part q old.channels
-  names = named_as s x.stamp x.mask q old stands k.names
+  names = named_as s x.stamp x.beat.mask q old stands k.names
 
   effect_is : peer_answered (here turn old.standing) mark (peer_seen old) m a ≡ effect_for s st q mark m a
   effect_is =
@@ -108,7 +109,7 @@ module _ (x : Keeping) (q turn : ℕ) (m : PeerRule) (mark : Option CopyMark) (a
   made : y ≡ rooms_of (made_now (effect_for s st q mark m a)) y
   made = k.made ∙ ap (λ (f : Effect Peer (ℕ → List Note)). rooms_of (made_now f) y) effect_is
 
-  becomes : Becomes s x.stamp x.mask q (with_reason (effect_for s st q mark m a).reason (effect_for s st q mark m a).local) (effect_for s st q mark m a).notes old y
+  becomes : Becomes s x.stamp x.beat.mask q (with_reason (effect_for s st q mark m a).reason (effect_for s st q mark m a).local) (effect_for s st q mark m a).notes old y
   becomes =
       let f = effect_for s st q mark m a in
       let p = with_reason f.reason f.local in
@@ -116,11 +117,12 @@ module _ (x : Keeping) (q turn : ℕ) (m : PeerRule) (mark : Option CopyMark) (a
         seen = ap peer_seen made ∙ seen_rooms (made_now f) y ∙ seen_known p f.notes old names.four four;
         records = λ c l. ap (λ (z : Partner). (channel_of z c).records) made ∙ roomed_at (made_now f).channels y.channels c
             ∙ records_known p f.notes old q c names.four l (names.each c l).partner_number (names.each c l).channel_number;
-        standing = subst (λ (z : Standing). IsStanding s x.stamp x.mask q z) (sym (ap (λ (z : Partner). z.standing) made)) (record {
+        standing = subst (λ (z : Standing). IsStanding s x.stamp x.beat.mask q z) (sym (ap (λ (z : Partner). z.standing) made)) (record {
           own = stands.own;
           partner = stands.partner;
           version = stands.version;
           wait = stands.wait;
+          checked = stands.checked;
           stamped = stands.stamped;
           masked = stands.masked;
         });
@@ -136,11 +138,11 @@ noted_apart s st q m a i c n = ap (λ (b : Bool). if b then (effect_for s st q (
 -- with the mark of the step
 pub peer_becomes : (x : Keeping) (q turn : ℕ) (m : PeerRule) (mark : Option CopyMark) (a : Answer) (y : Partner) → IsKept x → q < x.part.count → turn ≡ x.clock.turns + 1 → mark ≡ mark_of x.part (state_of x) (ForPeer q m) → IsPeerStepped turn m mark a (partner_at x.partners.list q) y
     → (let f = effect_for x.part (state_of x) q (mark_of x.part (state_of x) (ForPeer q m)) m a in
-    Becomes x.part x.stamp x.mask q (with_reason f.reason f.local) (λ c. noted_rule x.part (state_of x) (ForPeer q m) a q c) (partner_at x.partners.list q) y)
+    Becomes x.part x.stamp x.beat.mask q (with_reason f.reason f.local) (λ c. noted_rule x.part (state_of x) (ForPeer q m) a q c) (partner_at x.partners.list q) y)
 peer_becomes x q turn m mark a y kept inside t e k =
     let mk = mark_of x.part (state_of x) (ForPeer q m) in
     let f = effect_for x.part (state_of x) q mk m a in
-    let b : Becomes x.part x.stamp x.mask q (with_reason f.reason f.local) f.notes (partner_at x.partners.list q) y = becomes x q turn m mk a y kept inside t (subst (λ (o : Option CopyMark). IsPeerStepped turn m o a (partner_at x.partners.list q) y) e k) in
+    let b : Becomes x.part x.stamp x.beat.mask q (with_reason f.reason f.local) f.notes (partner_at x.partners.list q) y = becomes x q turn m mk a y kept inside t (subst (λ (o : Option CopyMark). IsPeerStepped turn m o a (partner_at x.partners.list q) y) e k) in
     record {
       seen = b.seen;
       records = λ c l. b.records c l ∙ ap (λ (ns : List Note). with_notes q c ns (channel_of (partner_at x.partners.list q) c).records) (sym (noted_here x.part (state_of x) q m a c));
@@ -168,8 +170,8 @@ pub peer_followed : (x : Keeping) (q turns : ℕ) (m : PeerRule) (mark : Option 
 peer_followed x q turns m mark a clock ps h up e f t one k =
     let mk = mark_of x.part (state_of x) (ForPeer q m) in
     let g = effect_for x.part (state_of x) q mk m a in
-    becomes_stepped x x.life x.boot x.stamp x.mask clock ps (ForPeer q m) a h.kept
-    (one_becomes x.part x.stamp x.mask x.partners.list ps.list q (with_reason g.reason g.local) (noted_rule x.part (state_of x) (ForPeer q m) a) (peer_within x q m h) one.list
+    becomes_stepped x x.life x.boot x.stamp x.beat clock ps (ForPeer q m) a h.kept
+    (one_becomes x.part x.stamp x.beat.mask x.partners.list ps.list q (with_reason g.reason g.local) (noted_rule x.part (state_of x) (ForPeer q m) a) (peer_within x q m h) one.list
     (λ i l. h.kept.standing i (subst (λ (n : ℕ). i < n) h.kept.count l))
     (peer_becomes x q (turns + 1) m mark a (partner_at ps.list q) h.kept (peer_partner x q m h) (turn_now x mark clock turns f t) e k)
     (noted_others x q m a))

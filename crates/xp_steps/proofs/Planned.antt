@@ -14,7 +14,7 @@ use Rattle.xp_protocol.specs.declared.contact.PartnerState.TheVariants as states
 use Rattle.xp_protocol.specs.declared.rule.AreaWord.{AreaWord}
 use Rattle.xp_protocol.specs.declared.rule.LinkRule.{LinkRule}
 use Rattle.xp_protocol.specs.declared.rule.PeerRule.{PeerRule}
-use Rattle.xp_protocol.specs.declared.rule.PeerRule.TheVariants.{AskActivation, TakeFlags, CloseArea, ZeroMagic, ClearOldBit, Prepare, OpenArea, SetEngagementBit, ReadRecord, StoreEcho, StoreSecond, ClearEngagementBit, LookAtPage, ClearDeactivationBit, TellPartner}
+use Rattle.xp_protocol.specs.declared.rule.PeerRule.TheVariants.{AskActivation, TakeFlags, CloseArea, ZeroMagic, ClearOldBit, Prepare, OpenArea, SetEngagementBit, ReadRecord, StoreEcho, StoreSecond, ClearEngagementBit, LookAtPage, CheckBeat, ClearDeactivationBit, TellPartner}
 use Rattle.xp_protocol.specs.declared.rule.Rule.{Rule}
 use Rattle.xp_protocol.specs.declared.rule.Rule.TheVariants.{Link, Peer as ForPeer, Own}
 use Rattle.xp_protocol.specs.State.{State, Peer, Engage, Area, Old, Off, Ready, Leaving, Life, Booting, Up, Halted, peer_of}
@@ -81,19 +81,20 @@ module _ (P : Type 0) (q : ℕ) (w : AreaWord) where
   never_link true k c (Some m) e = absurd (cc)
   never_link false k c o e = absurd (cc)
 
-  never_command : (st : State) (used : ℕ) (x : Command) (o : Option EndName) → command_at st used x o ≡ Some (ForPeer q (Prepare w)) → P
-  never_command st used x None e = absurd (cc)
-  never_command st used x (Some n) e = never_link (is_joined (peer_of st n.partner)) n.partner n.channel _ e
+  never_command : (s : ScenarioPart) (st : State) (used : ℕ) (x : Command) (o : Option EndName) → command_at s st used x o ≡ Some (ForPeer q (Prepare w)) → P
+  never_command s st used x None e = not_step P _ _ _ (λ f. absurd (cc)) e
+  never_command s st used x (Some n) e = never_link (is_joined (peer_of st n.partner)) n.partner n.channel _ e
 
-  never_current : (st : State) (used : ℕ) (o : Option Command) → command_asked st used o ≡ Some (ForPeer q (Prepare w)) → P
-  never_current st used None e = absurd (cc)
-  never_current st used (Some x) e = never_command st used x (named_end x) e
+  never_current : (s : ScenarioPart) (st : State) (used : ℕ) (o : Option Command) → command_asked s st used o ≡ Some (ForPeer q (Prepare w)) → P
+  never_current s st used None e = absurd (cc)
+  never_current s st used (Some x) e = never_command s st used x (named_end x) e
 
-  never_script : (s : ScenarioPart) (st : State) (used : ℕ) (b : Bool) → (if b then command_asked st used (current s st) else None) ≡ Some (ForPeer q (Prepare w)) → P
-  never_script s st used true e = never_current st used (current s st) e
+  never_script : (s : ScenarioPart) (st : State) (used : ℕ) (b : Bool) → (if b then command_asked s st used (current s st) else None) ≡ Some (ForPeer q (Prepare w)) → P
+  never_script s st used true e = never_current s st used (current s st) e
   never_script s st used false e = absurd (cc)
 
   never_own : (s : ScenarioPart) (x : Errand) (used : ℕ) (st : State) → ask_own s x used st ≡ Some (ForPeer q (Prepare w)) → P
+  never_own s errands.Beat used st e = not_step P _ _ _ (λ f. absurd (cc)) e
   never_own s errands.Mask used st e = not_step P _ _ _ (λ f. absurd (cc)) e
   never_own s errands.Activations used st e = absurd (cc)
   never_own s errands.Deactivations used st e = absurd (cc)
@@ -106,6 +107,7 @@ module _ (P : Type 0) (q : ℕ) (w : AreaWord) where
   never_own s errands.Answer used st e = absurd (cc)
   never_own s errands.Record used st e = absurd (cc)
   never_own s errands.Flags used st e = absurd (cc)
+  never_own s errands.Check used st e = absurd (cc)
   never_own s (errands.Signal c) used st e = absurd (cc)
   never_own s (errands.Counters c) used st e = absurd (cc)
   never_own s errands.Bulk used st e = absurd (cc)
@@ -142,11 +144,13 @@ partner_left s k errands.Engage used st q w e = never_for (IsLeft st q) q w k _ 
 partner_left s k errands.Answer used st q w e = never_for (IsLeft st q) q w k _ (never_answer (IsLeft st q) q w (peer_of st k)) e
 partner_left s k errands.Record used st q w e = never_for (IsLeft st q) q w k _ (λ f. not_step (IsLeft st q) _ ReadRecord (Prepare w) (λ g. absurd (cc)) f) e
 partner_left s k errands.Flags used st q w e = never_for (IsLeft st q) q w k _ (λ f. not_step (IsLeft st q) _ TakeFlags (Prepare w) (λ g. absurd (cc)) f) e
+partner_left s k errands.Check used st q w e = never_for (IsLeft st q) q w k _ (λ f. not_step (IsLeft st q) _ CheckBeat (Prepare w) (λ g. absurd (cc)) f) e
 partner_left s k (errands.Signal c) used st q w e = never_link (IsLeft st q) q w (is_joined (peer_of st k)) k c _ e
 partner_left s k (errands.Counters c) used st q w e = never_link (IsLeft st q) q w (is_joined (peer_of st k)) k c _ e
 partner_left s k errands.Bulk used st q w e = never_script (IsLeft st q) q w s st used st.script.doing e
 partner_left s k errands.Leave used st q w e = never_for (IsLeft st q) q w k _ (never_leave (IsLeft st q) q w (peer_of st k).engage.area (peer_of st k)) e
 partner_left s k errands.Boot used st q w e = absurd (cc)
+partner_left s k errands.Beat used st q w e = absurd (cc)
 partner_left s k errands.Mask used st q w e = absurd (cc)
 partner_left s k errands.Activations used st q w e = absurd (cc)
 partner_left s k errands.Deactivations used st q w e = absurd (cc)
@@ -172,6 +176,7 @@ left_for s place x used st StoreEcho q can e = tt
 left_for s place x used st StoreSecond q can e = tt
 left_for s place x used st ClearEngagementBit q can e = tt
 left_for s place x used st LookAtPage q can e = tt
+left_for s place x used st CheckBeat q can e = tt
 left_for s place x used st ClearDeactivationBit q can e = tt
 left_for s place x used st TellPartner q can e = tt
 
@@ -187,6 +192,7 @@ planned_session s st v is rule e can =
 
 boots : (s : ScenarioPart) (x : Errand) (st : State) (r : Rule) → ask_booting s x st ≡ Some r → boot_at s.part st ≡ Some r
 boots s errands.Boot st r e = e
+boots s errands.Beat st r e = absurd (cc)
 boots s errands.Mask st r e = absurd (cc)
 boots s errands.Activations st r e = absurd (cc)
 boots s errands.Deactivations st r e = absurd (cc)
@@ -197,6 +203,7 @@ boots s errands.Engage st r e = absurd (cc)
 boots s errands.Answer st r e = absurd (cc)
 boots s errands.Record st r e = absurd (cc)
 boots s errands.Flags st r e = absurd (cc)
+boots s errands.Check st r e = absurd (cc)
 boots s (errands.Signal c) st r e = absurd (cc)
 boots s (errands.Counters c) st r e = absurd (cc)
 boots s errands.Bulk st r e = absurd (cc)

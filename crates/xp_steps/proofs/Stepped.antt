@@ -54,6 +54,8 @@ own_unmarked x owns.ZeroOffline = refl
 own_unmarked x owns.WriteStamp = refl
 own_unmarked x owns.StoreMask = refl
 own_unmarked x owns.TakeActivation = refl
+own_unmarked x owns.StoreBeat = refl
+own_unmarked x owns.StoreOffline = refl
 
 pub own_answers : (x : Keeping) (m : OwnRule) (mark : Option CopyMark) (a : Answer) → mark ≡ mark_of x.part (state_of x) (Own m) → MayFail mark a → a ≡ Failed → ⊥
 own_answers x m mark a e h = none_fails a (subst (λ (o : Option CopyMark). MayFail o a) (e ∙ own_unmarked x m) h)

@@ -152,6 +152,7 @@ effect_becomes s stamp mask q f x y k names none four made left =
         partner = k.partner;
         version = k.version;
         wait = k.wait;
+        checked = k.checked;
         stamped = k.stamped;
         masked = k.masked;
       });
@@ -172,8 +173,8 @@ told_becomes : (s : ScenarioPart) (stamp mask q : ℕ) (word : OwnWord) (x y : P
     → Becomes s (stamp_by word stamp) (mask_by word mask) q (effect_by word q (peer_seen x)).local (effect_by word q (peer_seen x)).notes x y
 told_becomes s stamp mask q (Engaged w) x y k h = effect_becomes s stamp mask q (peer_read w q (peer_seen x)) x y k h.names (read_reason w q (peer_seen x)) (engaged_four w q (peer_seen x) (length_seen x h.names.four)) h.made h.left
 told_becomes s stamp mask q (Deactivated w) x y k h = effect_becomes s stamp mask q (deactivation_heard w q (peer_seen x)) x y k h.names refl (heard_four w q (peer_seen x) (length_seen x h.names.four)) h.made h.left
-told_becomes s stamp mask q (Mask w) x y k h = standing_becomes s stamp w q (record x.standing { masked = is_flagged w q }) x y (record { own = k.own; partner = k.partner; version = k.version; wait = k.wait; stamped = k.stamped; masked = refl }) refl h.made h.left
-told_becomes s stamp mask q (Stamp w) x y k h = standing_becomes s w mask q (record x.standing { stamp = w }) x y (record { own = k.own; partner = k.partner; version = k.version; wait = k.wait; stamped = refl; masked = k.masked }) refl h.made h.left
+told_becomes s stamp mask q (Mask w) x y k h = standing_becomes s stamp w q (record x.standing { masked = is_flagged w q }) x y (record { own = k.own; partner = k.partner; version = k.version; wait = k.wait; checked = k.checked; stamped = k.stamped; masked = refl }) refl h.made h.left
+told_becomes s stamp mask q (Stamp w) x y k h = standing_becomes s w mask q (record x.standing { stamp = w }) x y (record { own = k.own; partner = k.partner; version = k.version; wait = k.wait; checked = k.checked; stamped = refl; masked = k.masked }) refl h.made h.left
 
 -- and of all of them
 abbrev pub peers_by : OwnWord → List Peer → List Peer

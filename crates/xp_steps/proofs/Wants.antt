@@ -31,7 +31,7 @@ use Rattle.xp_steps.specs.Counting.{numbered_by}
 use Rattle.xp_steps.specs.Stepping.{CanStep}
 use Rattle.xp_steps.proofs.Counts.{wanted_numbered, wanted_unmarked}
 use Rattle.xp_steps.proofs.Allowed.{copies_low, link_partner, link_channel, link_known, link_within, link_allowed, link_room, link_counts, peer_partner, peer_known, peer_within, storable, not_halted, few}
-use Rattle.xp_steps.proofs.OwnSteps.{not_read, not_zeroed, not_offline, not_written, few_partners}
+use Rattle.xp_steps.proofs.OwnSteps.{not_read, not_zeroed, not_offline, not_written, few_partners, offline_asks, offline_low}
 
 -- at an end
 link_row_is : (x : Keeping) (q c : ℕ) (m : LinkRule) (w : Wanted) → CanStep x (Link q c m)
@@ -142,6 +142,6 @@ boot_none x rule o h l permits e = let f = sym e ∙ boot_wanted x rule o h l pe
 
 pub ruleset booting = (boot_some, boot_none)
 
-pub ruleset owning = (not_read, not_zeroed, not_offline, not_written, few_partners)
+pub ruleset owning = (not_read, not_zeroed, not_offline, not_written, few_partners, offline_asks, offline_low)
 
 pub ruleset wanting = (not_halted, link_known, link_channel, peer_known)

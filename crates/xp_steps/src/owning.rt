@@ -7,7 +7,7 @@ ghost use Rattle.xp_partition.specs.Keeping.{state_of};
 ghost use Rattle.xp_steps.specs.Stepping.{CanStep, IsStepped};
 
 use crate::telling::{OwnWord, tell_all};
-use xp_base::layout::{ACTIVATION, DEACTIVATION, ENGAGED, MASK};
+use xp_base::layout::{ACTIVATION, BEAT, DEACTIVATION, ENGAGED, MASK, OFFLINE};
 use xp_base::step::{Op, OpKind, Wanted};
 use xp_partition::keeping::Keeping;
 use xp_partition::life::Life;
@@ -25,6 +25,8 @@ pub fn wanted(keeping: &Keeping, rule: OwnRule) -> Wanted
         OwnRule::TakeDeactivation => (DEACTIVATION, OpKind::Take),
         OwnRule::TakeActivation => (ACTIVATION, OpKind::Take),
         OwnRule::StoreMask => (MASK, OpKind::Store(keeping.partners.mask())),
+        OwnRule::StoreBeat => (BEAT, OpKind::Store(keeping.beat.next())),
+        OwnRule::StoreOffline => (OFFLINE, OpKind::Store(keeping.next_offline())),
         OwnRule::ReadStamp | OwnRule::ZeroMask | OwnRule::ZeroOffline | OwnRule::WriteStamp => {
             unreachable!()
         }
@@ -48,10 +50,17 @@ pub fn step(keeping: &mut Keeping, rule: OwnRule, word: u64)
         OwnRule::TakeDeactivation => tell_all(&mut keeping.partners, OwnWord::Deactivated(word)),
         OwnRule::StoreMask => {
             let mask = keeping.partners.mask();
-            keeping.mask = mask;
+            keeping.beat.store_mask(mask);
             tell_all(&mut keeping.partners, OwnWord::Mask(mask));
         }
         OwnRule::TakeActivation => {}
+        OwnRule::StoreBeat => {
+            let _ = keeping.beat.tick();
+        }
+        OwnRule::StoreOffline => {
+            let count = keeping.next_offline();
+            keeping.beat.store_offline(count, keeping.script.begun());
+        }
         OwnRule::ReadStamp | OwnRule::ZeroMask | OwnRule::ZeroOffline | OwnRule::WriteStamp => {
             unreachable!()
         }

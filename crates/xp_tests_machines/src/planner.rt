@@ -30,6 +30,7 @@ impl Affairs for Idle {
 
     fn step(&self, place: &Place, errand: Errand, used: u8) -> Option<Rule> {
         match (place, errand) {
+            (Place::Own, Errand::Beat) => Some(Rule::Own(OwnRule::StoreBeat)),
             (Place::Own, Errand::Activations) => Some(Rule::Own(OwnRule::TakeActivation)),
             (Place::Own, Errand::Deactivations) => Some(Rule::Own(OwnRule::TakeDeactivation)),
             (Place::Partner(partner), Errand::Look) => {
@@ -42,6 +43,10 @@ impl Affairs for Idle {
             _ => None,
         }
     }
+}
+
+fn beats(rule: Option<Rule>) -> bool {
+    matches!(rule, Some(Rule::Own(OwnRule::StoreBeat)))
 }
 
 fn takes_activation(rule: Option<Rule>) -> bool {
@@ -57,11 +62,13 @@ fn looks(rule: Option<Rule>) -> bool {
 }
 
 #[test]
-fn an_idle_partition_takes_its_words_and_looks(rt: HostRuntime) {
+fn an_idle_partition_beats_takes_its_words_and_looks(rt: HostRuntime) {
     let mut planner = Planner::new(PartId::known(0), 2);
+    assert!(rt; beats(planner.next(&Idle)));
     assert!(rt; takes_activation(planner.next(&Idle)));
     assert!(rt; takes_deactivation(planner.next(&Idle)));
     assert!(rt; looks(planner.next(&Idle)));
+    assert!(rt; beats(planner.next(&Idle)));
     assert!(rt; takes_activation(planner.next(&Idle)));
     assert!(rt; takes_deactivation(planner.next(&Idle)));
     assert!(rt; looks(planner.next(&Idle)));

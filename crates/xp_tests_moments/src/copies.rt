@@ -34,6 +34,20 @@ take 0 0
     schedule: ENDED,
 };
 
+/// Partition 1 checks the heartbeat of its partner, which has ended, and then takes. In the window
+/// after the check it has deactivated the partner where a load of the check failed.
+const CHECKED: Frame = Frame {
+    settings: "warm 0 1 0 entries 2 limit 16\ncheck 4096\n",
+    scripts: "script 0
+send 1 0 01
+send 1 0 02
+script 1
+idle 6144
+take 0 0
+",
+    schedule: ENDED,
+};
+
 /// Partition 0 puts three messages into a queue of two, so its third send loads get.
 const FULL: Frame = Frame {
     settings: JOINED,
@@ -47,12 +61,18 @@ send 1 0 03
 
 /// Scenarios, kinds of copies, how many loads one has, and what the take answers where one of them
 /// fails.
-const KINDS: [(Frame, &str, u64, &str); 3] = [
+const KINDS: [(Frame, &str, u64, &str); 4] = [
     (
         LATE,
         "page",
         5,
         "  1 2 take disconnecting copy-error page 1",
+    ),
+    (
+        CHECKED,
+        "beat",
+        3,
+        "  1 2 take disconnecting copy-error beat 1",
     ),
     (
         RUN,
@@ -98,8 +118,8 @@ fn fails_at_each_load(rt: HostRuntime) -> Result<(), Fail> {
     Ok(())
 }
 
-/// Queues that are full when the other looks: of eight messages, and of one that takes eight lines. What a report says where
-/// the run fails.
+/// Queues that are full when the other looks: of eight messages, and of one that takes eight lines.
+/// What a report says where the run fails.
 const WHOLE_QUEUES: [(Frame, &[&str]); 2] = [
     (
         Frame {
@@ -178,6 +198,7 @@ fn fails_at_no_other_load(rt: HostRuntime) -> Result<(), Fail> {
         ("get", 0),
         ("record", 0),
         ("args", 0),
+        ("beat", 0),
     ];
     for (kind, load) in others {
         let line = failure(rt.alloc(), 1, kind, 1, load)?;

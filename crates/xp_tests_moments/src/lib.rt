@@ -1,6 +1,9 @@
-//! Tests of partners that go and come again, and of channels that open and close: replays of many scenarios that differ in a few places.
+//! Tests of partners that go and come again, of heartbeats, and of channels that open and close:
+//! replays of many scenarios that differ in a few places.
 #![tactic(auto)]
 
+#[cfg(test)]
+mod beats;
 #[cfg(test)]
 mod channels;
 #[cfg(test)]

@@ -144,6 +144,38 @@ pub fn expect_report(
     Ok(())
 }
 
+/// Whether a report has a line of this beginning, with a count that stood still.
+fn has_stood_still(alloc: Global, report: &str, begin: &str) -> Result<bool, AllocError> {
+    for count in 1u64..65 {
+        let mut line = String::new(alloc);
+        write!(line, "{begin} {count} {count} 2")?;
+        if has_line(report, &line) {
+            return Ok(true);
+        }
+    }
+    Ok(false)
+}
+
+/// Replays a scenario with lines of its own, and expects that its report says this, and has a line
+/// of each beginning, which tells of a heartbeat that stood still: of the same count twice, from 1
+/// to 64, in the mask of partition 1 alone.
+pub fn expect_stood_still(
+    rt: &impl Abort,
+    alloc: Global,
+    frame: Frame,
+    own: &str,
+    told: Told,
+    begins: &[&str],
+) -> Result<(), Fail> {
+    let made = replay_with(rt, alloc, frame, own)?;
+    expect_text(rt, &made.report, own, told);
+    for begin in begins {
+        let found = has_stood_still(alloc, &made.report, begin)?;
+        assert!(rt; found, "{own}: {begin}");
+    }
+    Ok(())
+}
+
 /// The line of a moment of a partition, as `stop` or `restart`.
 pub fn moment(alloc: Global, verb: &str, part: u8, turn: u64) -> Result<String, AllocError> {
     let mut line = String::new(alloc);

@@ -77,7 +77,7 @@ const NUMBERS: [(Setting, Judgement); 7] = [
     (Setting::Budget(4_000_001), Judgement::Unlawful),
     (Setting::Budget(0), Judgement::Unlawful),
     (Setting::Check(0), Judgement::Built),
-    (Setting::Check(4_096), Judgement::Unbuilt),
+    (Setting::Check(4_096), Judgement::Built),
     (Setting::Check(4_095), Judgement::Unlawful),
     (Setting::Check(1_000_000_001), Judgement::Unlawful),
 ];

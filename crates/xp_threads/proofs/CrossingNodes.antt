@@ -25,7 +25,7 @@ use Rattle.xp_threads.proofs.CrossingEnds.{send_answer_send, release_answer_send
 
 standing_inside : IsSend StandingInside.the_row
 standing_inside =
-    declared_send StandingInside.the_type (search (id_send, sendable, crosses) depth 30, (search (id_send, sendable, crosses) depth 30, (search (sendable, crosses) depth 30, (search (sendable, crosses) depth 30, (search (sendable, crosses) depth 30, (search (sendable, crosses) depth 30, (search (sendable, crosses) depth 30, (search (sendable, crosses) depth 30, (search (sendable, crosses) depth 30, (search (sendable, crosses) depth 30, (search (sendable, crosses) depth 30, (search (reason_send, sendable, crosses) depth 30, (search (sendable, crosses) depth 30, (search (sendable, crosses) depth 30, (search (sendable, crosses) depth 30, (search (sendable, crosses) depth 30, tt))))))))))))))))
+    declared_send StandingInside.the_type (search (id_send, sendable, crosses) depth 30, (search (id_send, sendable, crosses) depth 30, (search (sendable, crosses) depth 30, (search (sendable, crosses) depth 30, (search (sendable, crosses) depth 30, (search (sendable, crosses) depth 30, (search (sendable, crosses) depth 30, (search (sendable, crosses) depth 30, (search (sendable, crosses) depth 30, (search (sendable, crosses) depth 30, (search (sendable, crosses) depth 30, (search (sendable, crosses) depth 30, (search (reason_send, sendable, crosses) depth 30, (search (sendable, crosses) depth 30, (search (sendable, crosses) depth 30, (search (sendable, crosses) depth 30, (search (sendable, crosses) depth 30, (search (sendable, crosses) depth 30, tt))))))))))))))))))
 
 standing_send : IsSend PartnerEnd.the_row
 standing_send = search (standing_inside, view_send)

@@ -125,7 +125,7 @@ done_by m olds t k j j' old new p r d place was en ep kept =
     let first : j.node ≡ old = same_Some j.node old (sym r.node ∙ (ap (slice_get olds) same ∙ was)) in
     let works : Works old [] j'.node j'.port.pass.history =
     subst (λ (n : NodeView). Works n [] j'.node j'.port.pass.history) first (subst (λ (xs : List Step). Works j.node xs j'.node j'.port.pass.history) r.ready.history d.works) in
-    let done : IsDone m k old j'.node j'.port.pass = record { pass = pass; works = works; finished = d.finished kept } in
+    let done : IsDone m k old j'.node j'.port.pass = record { pass = pass; works = works; finished = d.finished kept; within = d.within } in
     subst (λ (n : NodeView). IsDone m k old n p) en (subst (λ (x : PassView). IsDone m k old j'.node x) ep done)
 
 pub all_done : (m : SharedView) (olds news : List NodeView) (ps : List PassView) (js js' : List Job) → length js' ≡ length js → length js ≡ length m.opening → AreReadyJobs m olds js

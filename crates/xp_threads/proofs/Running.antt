@@ -25,7 +25,7 @@ use Rattle.xp_world.specs.World.{IsNodeOf, Reached, IsReadyNode, IsReady}
 use Rattle.xp_world.proofs.Partitions.{Plays, has_ended}
 use Rattle.xp_world.proofs.Stepping.{step_by, steps_in, legal_events}
 use Rattle.xp_world.proofs.Worlds.{reached_by}
-use Rattle.xp_threads.specs.Working.{IsFinished}
+use Rattle.xp_threads.specs.Working.{IsFinished, IsWithin}
 use Rattle.xp_threads.specs.Jobs.{IsReadyToRun, AreReady, IsDone, AreDone}
 use Rattle.xp_threads.specs.Running.{Finished}
 use Rattle.xp_threads.proofs.Counting.{start_counts, all_counted}
@@ -82,6 +82,7 @@ record Played (s : Scenario) (news : List NodeView) (ps : List PassView) (k : �
   steps : pass.history ≡ steps_of ts
   idle : node.waiting ≡ None
   finished : IsFinished node
+  within : IsWithin node
 
 -- nothing was done before
 abbrev pub AreFirst : Scenario → List NodeView → Type 0
@@ -107,6 +108,7 @@ played s m olds news ps k first done a b c =
         steps = w.steps;
         idle = w.idle;
         finished = d.finished;
+        within = d.within;
       },
     )
 
@@ -124,6 +126,12 @@ finished_in s h p n k f =
       | inl e ↦ inl (has_ended s h p n k e)
       | inr e ↦ inr (sym (all_counted n.part (turns_of p h)) ∙ (ap (λ (st : State). st.clock.turns) (sym k.made.state) ∙ (e ∙ ap (λ (a : ScenarioPart). a.budget) k.part)))
     ]
+
+within_in : (s : Scenario) (h : List Event) (p : ℕ) (n : NodeView) → IsNodeOf s h p n → IsWithin n → length (turns_of p h) ≤ s.budget
+within_in s h p n k f =
+    let turns = ap (λ (st : State). st.clock.turns) k.made.state ∙ all_counted n.part (turns_of p h) in
+    let budget = ap (λ (a : ScenarioPart). a.budget) k.part in
+    omega (arith, f, turns, budget)
 
 -- what the passes' histories are merged into, with the turns that made their steps
 pub record Ended (s : Scenario) (w : World) : Type 0 where
@@ -163,7 +171,10 @@ ended s m olds ps w opened count a b c first done merged =
     record {
       history = h;
       reached = reached_by s h w plays (legal_events n h (opening s) w.words parts steps);
-      finished = λ k low. (let q = (all k).1 low in finished_in s h k q.node (nodes k q.node q.is) q.finished);
+      finished = record {
+        ended = λ k low. (let q = (all k).1 low in finished_in s h k q.node (nodes k q.node q.is) q.finished);
+        within = λ k low. (let q = (all k).1 low in within_in s h k q.node (nodes k q.node q.is) q.within);
+      };
       idle = λ k x e.
           (let within = slice_get_within news k x e in
           let low : k < n = omega (arith, within, b, count) in

@@ -11,7 +11,7 @@ use Rattle.xp_node.proofs.Histories.{made_more}
 use Rattle.xp_world.specs.Turning.{IsSameNode, TurnsOver}
 use Rattle.xp_world.proofs.Turned.{same_turn, is_over}
 use Rattle.xp_world.proofs.Worlds.{room_made}
-use Rattle.xp_threads.specs.Working.{MakesJust, MakesTurns, Works, IsFinished, Goes}
+use Rattle.xp_threads.specs.Working.{MakesJust, MakesTurns, Works, IsFinished, IsWithin, Goes}
 use Rattle.xp_threads.proofs.Counting.{turn_counts}
 
 pub same_node : (n : NodeView) → IsSameNode n n
@@ -127,4 +127,15 @@ finished_ended n e = inl (is_over n e)
 pub finished_budget : (old now : NodeView) → now.part ≡ old.part → now.state.clock.turns ≡ old.part.budget → IsFinished now
 finished_budget old now same turns = inr (turns ∙ ap (λ (s : ScenarioPart). s.budget) (sym same))
 
-pub ruleset working = (works_none, works_roomy, finished_ended, finished_budget)
+-- and has made no more turns than it may
+pub within_turn : (old now : NodeView) (before steps : List Step) (part part1 turn : ℕ) (m m1 : SharedView)
+    → Goes old before part m turn now steps part1 m1 → turn ≤ old.part.budget → IsWithin now
+within_turn old now before steps part part1 turn m m1 h low =
+    let turns = h.turns in
+    let budget = ap (λ (s : ScenarioPart). s.budget) h.works.part in
+    omega (arith, low, turns, budget)
+
+pub within_roomy : (now roomy : NodeView) → roomy ≡ record now { room = roomy.room } → IsWithin now → IsWithin roomy
+within_roomy now roomy same h = subst IsWithin (sym same) h
+
+pub ruleset working = (works_none, works_roomy, finished_ended, finished_budget, within_turn, within_roomy)

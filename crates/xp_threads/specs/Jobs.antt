@@ -5,7 +5,7 @@ use Rattle.xp_fabric.specs.Views.{SharedView, PassView}
 use Rattle.xp_node.specs.Node.{NodeView}
 use Rattle.xp_world.specs.World.{IsReadyNode}
 use Rattle.xp_threads.specs.declared.jobs.Job.{Job}
-use Rattle.xp_threads.specs.Working.{Works, IsFinished}
+use Rattle.xp_threads.specs.Working.{Works, IsFinished, IsWithin}
 
 -- node k is of partition k among so many, no step waits, and it may make turns up to its budget
 pub record IsReadyToRun (among k : ℕ) (n : NodeView) : Type 0 where
@@ -21,13 +21,14 @@ pub record IsReadyJob (k : ℕ) (j : Job) : Type 0 where
   pub part : j.port.pass.part ≡ k
   pub history : j.port.pass.history ≡ []
 
--- a job that is done: the node has finished, unless memory was refused, and the port has made the
--- steps of its turns
+-- a job that is done: the node has finished, unless memory was refused, and made no more turns than
+-- it may, and the port has made the steps of its turns
 pub record IsDoneJob (old new : Job) : Type 0 where
   pub memory : new.port.memory.now ≡ old.port.memory.now
   pub part : new.port.pass.part ≡ old.port.pass.part
   pub works : Works old.node old.port.pass.history new.node new.port.pass.history
   pub finished : new.refused ≡ false → IsFinished new.node
+  pub within : IsWithin new.node
 
 -- what a thread is given for each job, and what it leaves
 abbrev pub EachReady : List Job → Type 0
@@ -64,11 +65,12 @@ abbrev pub AreParted : List Job → List NodeView → List PassView → Type 0
 AreParted js ns ps = (k : ℕ) (n : NodeView) (p : PassView)
     → slice_get ns k ≡ Some n → slice_get ps k ≡ Some p → IsPartedFrom js k n p
 
--- node k has finished, and its pass has made the steps of its turns
+-- node k has finished within its budget, and its pass has made the steps of its turns
 pub record IsDone (m : SharedView) (k : ℕ) (old new : NodeView) (p : PassView) : Type 0 where
   pub pass : IsPassOf m k p
   pub works : Works old [] new p.history
   pub finished : IsFinished new
+  pub within : IsWithin new
 
 abbrev pub AreDone : SharedView → List NodeView → List NodeView → List PassView → Type 0
 AreDone m olds news ps = (k : ℕ) (old new : NodeView) (p : PassView)

@@ -1,5 +1,5 @@
 -- What the work of one thread comes to.
-use Rattle.std.specs.Prelude.{◌≡◌, ◌⊎◌, ℕ, List, [], ◌∷◌, ◌++◌, Option, None}
+use Rattle.std.specs.Prelude.{◌≡◌, ◌⊎◌, ◌≤◌, ℕ, List, [], ◌∷◌, ◌++◌, Option, None}
 use Rattle.xp_base.specs.declared.step.Step.{Step}
 use Rattle.xp_base.specs.History.{Marked, Turn}
 use Rattle.xp_fabric.specs.Views.{SharedView}
@@ -31,6 +31,10 @@ pub record Works (old : NodeView) (before : List Step) (new : NodeView) (after :
 -- it has ended, or made as many turns as it may
 abbrev pub IsFinished : NodeView → Type 0
 IsFinished n = IsEnded n ⊎ (n.state.clock.turns ≡ n.part.budget)
+
+-- it has made no more turns than it may
+abbrev pub IsWithin : NodeView → Type 0
+IsWithin n = n.state.clock.turns ≤ n.part.budget
 
 -- how far a worker has come: it is before turn number `turn`
 pub record Goes (old : NodeView) (before : List Step) (part : ℕ) (memory : SharedView) (turn : ℕ)

@@ -1,6 +1,6 @@
 // The work of one thread.
 ghost use Rattle.std.specs.Prelude.{◌≡◌, ◌≤◌, length, OnOk, None};
-ghost use Rattle.xp_threads.specs.Working.{Works, IsFinished};
+ghost use Rattle.xp_threads.specs.Working.{Works, IsFinished, IsWithin};
 
 use crate::gate::Gate;
 use std::alloc::AllocError;
@@ -19,6 +19,7 @@ pub fn worker<G: Gate>(node: &mut Node, port: &mut Port<'_>, gate: &G) -> Result
     requires idle { node.old.waiting ≡ None }
     ensures works { Works node.old port.old.pass.history node.new port.new.pass.history }
     ensures finished { OnOk result (IsFinished node.new) }
+    ensures within { IsWithin node.new }
     ensures part { port.new.pass.part ≡ port.old.pass.part }
     ensures memory { port.new.memory.now ≡ port.old.memory.now }
 {

@@ -9,8 +9,10 @@ use Rattle.xp_tool.specs.declared.product.Product.{Product}
 use Rattle.xp_tool.specs.declared.status.InputFault.{InputFault}
 use Rattle.xp_tool.specs.declared.status.Status.{Status}
 use Rattle.xp_tool.specs.declared.status.Status.TheVariants.{Ok, Usage, ReadFault, WriteFault, BadInput, TooLong, NoMemory}
-use Rattle.xp_tool.specs.Command.{limit_of, IsRefused, LeavesWorld, end_of}
-use Rattle.xp_tool.specs.Plain.{ReadsWithin, Reads, Ran, Headline, Cut, WritesFront, IsBad, IsTooLong, told_within, IsWithin, IsToldAnd, IsGood, IsWrong, IsPastLimit}
+use Rattle.xp_tool.specs.declared.command.TheConstants.{SCENARIO_LIMIT, DUMP_LIMIT}
+use Rattle.xp_tool.specs.declared.command.ToolCommand.TheVariants.{Replay, Run, Dump, Decode, Gen, Big}
+use Rattle.xp_tool.specs.Command.{limit_of, IsRefused, LeavesWorld, end_of, needs_threads}
+use Rattle.xp_tool.specs.Plain.{only_plain, ReadsNothing, ReadsWithin, Reads, Ran, Headline, Cut, WritesFront, IsBad, IsTooLong, told_within, IsWithin, IsToldAnd, IsGood, IsWrong, IsPastLimit}
 use Rattle.xp_tool.specs.Made.{IsMade, Wrote, Outcome}
 use Rattle.xp_tool.proofs.Commands.{done_good, leaves}
 
@@ -30,6 +32,31 @@ none_and o P e h = and_none o P h e
 clash : {A : Type 0} (o : Option A) (P Q : A → Type 0) → ((x : A) → P x → Q x → ⊥) → IsSomeAnd o P → IsSomeAnd o Q → ⊥
 clash None P Q f p q = p
 clash (Some x) P Q f p q = f x p q
+
+-- a command that reads nothing is the one that was meant, and needs no threads
+pub command_reads_nothing : (o : Option ToolCommand) (c : ToolCommand) → Some c ≡ o → IsSomeAnd o ReadsNothing → ReadsNothing c
+command_reads_nothing o c e h = subst (λ (x : Option ToolCommand). IsSomeAnd x ReadsNothing) (sym e) h
+
+no_limit : (n : ℕ) → Some n ≡ None → ⊥
+no_limit n e = cc
+
+pub plain_reads_nothing : (o : Option ToolCommand) → IsSomeAnd o ReadsNothing → IsSomeAnd (only_plain o) ReadsNothing
+plain_reads_nothing None h = h
+plain_reads_nothing (Some Replay) h = absurd (no_limit SCENARIO_LIMIT h)
+plain_reads_nothing (Some Run) h = absurd (no_limit SCENARIO_LIMIT h)
+plain_reads_nothing (Some Dump) h = absurd (no_limit SCENARIO_LIMIT h)
+plain_reads_nothing (Some Decode) h = absurd (no_limit DUMP_LIMIT h)
+plain_reads_nothing (Some (Gen n)) h = refl
+plain_reads_nothing (Some (Big n)) h = refl
+
+pub threads_read : (o : Option ToolCommand) → needs_threads o ≡ true → IsSomeAnd o ReadsNothing → ⊥
+threads_read None e h = h
+threads_read (Some Replay) e h = no_limit SCENARIO_LIMIT h
+threads_read (Some Run) e h = no_limit SCENARIO_LIMIT h
+threads_read (Some Dump) e h = no_limit SCENARIO_LIMIT h
+threads_read (Some Decode) e h = no_limit DUMP_LIMIT h
+threads_read (Some (Gen n)) e h = absurd cc
+threads_read (Some (Big n)) e h = absurd cc
 
 no_rise : (old new : ℕ) → Rose old new → new ≡ old → old < 2 ^ 64 - 1 → ⊥
 no_rise old new r e h = omega (arith, r, e, h)

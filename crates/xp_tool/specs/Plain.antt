@@ -20,6 +20,10 @@ only_plain (Some command) = if is_plain command then Some command else None
 abbrev pub plain_command_of : List (String Global) → Option ToolCommand
 plain_command_of words = only_plain (command_of words)
 
+-- the command reads nothing
+abbrev pub ReadsNothing : ToolCommand → Type 0
+ReadsNothing command = limit_of command ≡ None
+
 -- within its limit a command reads all bytes to their end; without one it reads nothing
 abbrev pub ReadsWithin : Option ℕ → Option (List ℕ) → Option (List ℕ) → List ℕ → Type 0
 ReadsWithin (Some limit) left left' input =

@@ -2,7 +2,7 @@
 ghost use Rattle.std.specs.Prelude.{◌≡◌, ◌≢◌, ℕ, ◌<◌, ◌≤◌, ◌-◌, ◌^◌, ◌↔◌, ◌⊎◌, List, length, true, None, IfOk, IfErr, IfSome, IsSome, IsSomeAnd};
 ghost use Rattle.xp_outside.specs.Causes.{Rose};
 ghost use Rattle.xp_tool.specs.Command.{is_plain, LeavesWorld};
-ghost use Rattle.xp_tool.specs.Plain.{plain_command_of, Headline, Cut, WritesFront, IsBad, IsTooLong, IsGood, IsWrong, IsPastLimit};
+ghost use Rattle.xp_tool.specs.Plain.{plain_command_of, ReadsNothing, Headline, Cut, WritesFront, IsBad, IsTooLong, IsGood, IsWrong, IsPastLimit};
 ghost use Rattle.xp_tool.specs.Made.{Outcome};
 
 use crate::command::ToolCommand;
@@ -47,8 +47,8 @@ pub fn plain<S: Source, K: Sink>(
         (K.held sink.old) (K.held sink.new) result.end) }
 
     // With a fault of the sink a front of the text was written, for want of memory nothing or such
-    // a front. With every other refusal the sink is as before, and where the words aren't a command
-    // the source is too.
+    // a front. With every other refusal the sink is as before. Where the words aren't a command, or
+    // are one that reads nothing, the source is as before too.
     ensures cut { result.status ≡ Status.WriteFault
         → IsSomeAnd (plain_command_of words.now)
         (λ command. Cut command (S.left source.old) (S.left source.new)
@@ -60,6 +60,7 @@ pub fn plain<S: Source, K: Sink>(
     ensures kept { result.status ≢ Status.Ok → result.status ≢ Status.WriteFault
         → result.status ≢ Status.NoMemory → sink.new ≡ sink.old }
     ensures unread { result.status ≡ Status.Usage → source.new ≡ source.old }
+    ensures reads_nothing { IsSomeAnd (plain_command_of words.now) ReadsNothing → source.new ≡ source.old }
 
     // A count of faults rises only with the status that tells it.
     ensures count_of_reads { result.status ≢ Status.ReadFault
@@ -102,8 +103,10 @@ pub fn perform<S: Source, K: Sink>(
 ) -> Done
     requires reads { S.faults source.old < 2 ^ 64 - 1 }
     requires writes { K.faults sink.old < 2 ^ 64 - 1 }
-    ensures { Outcome S.left S.faults K.held K.faults (plain_command_of words.now)
+    ensures outcome { Outcome S.left S.faults K.held K.faults (plain_command_of words.now)
         source.old source.new sink.old sink.new result.end result.status }
+    ensures unread { IsSomeAnd (plain_command_of words.now) ReadsNothing
+        → source.new ≡ source.old }
 {
     let command = match plain_command(alloc, words) {
         Ok(Some(command)) => command,

@@ -7,6 +7,7 @@ ghost use Rattle.xp_scenario.specs.Pokes.{poke_in};
 ghost use Rattle.xp_scenario.specs.Text.{scenario_in};
 ghost use Rattle.xp_tool.specs.Command.{end_of, is_plain, IsNoRun, IsNoScenario, IsNotBuilt, Leads, Replays, Runs};
 ghost use Rattle.xp_tool.specs.Made.{IsMade, IsUnmade, IsUnmadeBy, Makes, refusal_of};
+ghost use Rattle.xp_tool.specs.Plain.{ReadsNothing};
 
 use crate::command::ToolCommand;
 use crate::input::{read_dump, read_text};
@@ -66,8 +67,9 @@ pub struct Made {
 pub fn make<S: Source>(alloc: Global, command: ToolCommand, source: &mut S) -> Result<Made, Status>
     requires reads { S.faults source.old < 2 ^ 64 - 1 }
     requires plain { is_plain command ≡ true }
-    ensures { Makes command (S.left source.old) (S.left source.new)
+    ensures made { Makes command (S.left source.old) (S.left source.new)
         (S.faults source.old) (S.faults source.new) result }
+    ensures unread { ReadsNothing command → source.new ≡ source.old }
 {
     match command {
         ToolCommand::Replay => {

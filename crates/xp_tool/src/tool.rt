@@ -3,7 +3,7 @@ ghost use Rattle.std.specs.Prelude.{◌≡◌, ◌≢◌, ℕ, ◌<◌, ◌≤�
 ghost use Rattle.xp_outside.specs.Causes.{Rose};
 ghost use Rattle.xp_tool.specs.Command.{LeavesWorld, needs_threads};
 ghost use Rattle.xp_tool.specs.Words.{command_of};
-ghost use Rattle.xp_tool.specs.Plain.{Headline, Cut, WritesFront, IsBad, IsTooLong, IsGood, IsWrong, IsPastLimit};
+ghost use Rattle.xp_tool.specs.Plain.{ReadsNothing, Headline, Cut, WritesFront, IsBad, IsTooLong, IsGood, IsWrong, IsPastLimit};
 ghost use Rattle.xp_tool.specs.Made.{Outcome};
 
 use crate::command::ToolCommand;
@@ -52,8 +52,8 @@ pub fn tool<R: Threads + Sync, S: Source, K: Sink, G: Gate + Sync>(
         (K.held sink.old) (K.held sink.new) result.end) }
 
     // With a fault of the sink a front of the text was written, for want of memory nothing or such
-    // a front. With every other refusal the sink is as before, and where the words aren't a command
-    // the source is too.
+    // a front. With every other refusal the sink is as before. Where the words aren't a command, or
+    // are one that reads nothing, the source is as before too.
     ensures cut { result.status ≡ Status.WriteFault
         → IsSomeAnd (command_of words.now)
         (λ command. Cut command (S.left source.old) (S.left source.new)
@@ -65,6 +65,7 @@ pub fn tool<R: Threads + Sync, S: Source, K: Sink, G: Gate + Sync>(
     ensures kept { result.status ≢ Status.Ok → result.status ≢ Status.WriteFault
         → result.status ≢ Status.NoMemory → sink.new ≡ sink.old }
     ensures unread { result.status ≡ Status.Usage → source.new ≡ source.old }
+    ensures reads_nothing { IsSomeAnd (command_of words.now) ReadsNothing → source.new ≡ source.old }
 
     // A count of faults rises only with the status that tells it.
     ensures count_of_reads { result.status ≢ Status.ReadFault
@@ -109,8 +110,9 @@ fn perform_any<R: Threads + Sync, S: Source, K: Sink, G: Gate + Sync>(
 ) -> Done
     requires reads { S.faults source.old < 2 ^ 64 - 1 }
     requires writes { K.faults sink.old < 2 ^ 64 - 1 }
-    ensures { Outcome S.left S.faults K.held K.faults (command_of words.now)
+    ensures outcome { Outcome S.left S.faults K.held K.faults (command_of words.now)
         source.old source.new sink.old sink.new result.end result.status }
+    ensures unread { IsSomeAnd (command_of words.now) ReadsNothing → source.new ≡ source.old }
 {
     let command = match command(alloc, words) {
         Ok(command) => command,

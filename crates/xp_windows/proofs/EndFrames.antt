@@ -19,8 +19,8 @@ use Rattle.xp_protocol.specs.declared.rule.Argument.{Argument}
 use Rattle.xp_protocol.specs.declared.rule.LinkRule.{LinkRule}
 use Rattle.xp_protocol.specs.declared.rule.LinkRule.TheVariants.{Ring, Pull, Acknowledge, SetFlag, ZeroGet, ZeroPut, StoreArgument, ReadArgument}
 use Rattle.xp_protocol.specs.declared.rule.PeerRule.{PeerRule}
-use Rattle.xp_protocol.specs.declared.rule.PeerRule.TheVariants.{AskActivation, TakeFlags, CloseArea, ZeroMagic, ClearOldBit, Prepare, OpenArea, SetEngagementBit, ReadRecord, StoreEcho, StoreSecond, ClearEngagementBit, LookAtPage, ClearDeactivationBit, TellPartner}
-use Rattle.xp_protocol.specs.declared.rule.OwnRule.TheVariants.{ReadEngaged, TakeDeactivation, ReadStamp, ZeroMask, ZeroOffline, WriteStamp, StoreMask, TakeActivation}
+use Rattle.xp_protocol.specs.declared.rule.PeerRule.TheVariants.{AskActivation, TakeFlags, CloseArea, ZeroMagic, ClearOldBit, Prepare, OpenArea, SetEngagementBit, ReadRecord, StoreEcho, StoreSecond, ClearEngagementBit, LookAtPage, CheckBeat, ClearDeactivationBit, TellPartner}
+use Rattle.xp_protocol.specs.declared.rule.OwnRule.TheVariants.{ReadEngaged, TakeDeactivation, ReadStamp, ZeroMask, ZeroOffline, WriteStamp, StoreMask, TakeActivation, StoreBeat, StoreOffline}
 use Rattle.xp_protocol.specs.declared.rule.PullRule.{PullRule}
 use Rattle.xp_protocol.specs.declared.rule.Rule.{Rule}
 use Rattle.xp_protocol.specs.declared.rule.Rule.TheVariants.{Link, Peer as ForPeer, Own}
@@ -119,14 +119,14 @@ module _ (N : End → LinkRule → Type 0) (P : End → Type 0) (z : EndKeeps N 
     left_leave None p h = h
     left_leave (Some r) p h = each_keeps (λ d e. link_down r e) p (λ e i. z.leaves r e i) h
 
-    contact_leave : (stamp : ℕ) (p : Peer) → In p → In (try_contact stamp p).local
-    contact_leave stamp p h = cond_peer In (p.engage.second && (p.engage.shown && not (is_some p.contact))) (contact_made stamp p) (same_peer p) (each_keeps (λ d e. link_joined p.both_new (contact_of stamp p.engage) e) p (λ e i. z.joins p.both_new (contact_of stamp p.engage) e i) h) h
+    contact_leave : (turn stamp : ℕ) (p : Peer) → In p → In (try_contact turn stamp p).local
+    contact_leave turn stamp p h = cond_peer In (p.engage.second && (p.engage.shown && not (is_some p.contact))) (contact_made turn stamp p) (same_peer p) (each_keeps (λ d e. link_joined p.both_new (contact_of stamp p.engage) e) p (λ e i. z.joins p.both_new (contact_of stamp p.engage) e i) h) h
 
     read_leave : (y : Here) (p : Peer) (o : Option Reading) (w : ℕ) → In p → In (record_read y p o w).local
     read_leave y p None w h = cond_peer In (nat_eq w 0) _ _ h (cond_peer In (is_magic w) _ _ h h)
     read_leave y p (Some r) w h =
         cond_peer In (nat_eq r.done 1) _ _ h (cond_peer In (nat_eq r.done 2) _ _ h (cond_peer In (nat_eq r.done 7) _ _
-        (cond_peer In (has_shown y.stamp p.engage r) _ _ (contact_leave y.stamp (record p { engage = record p.engage { shown = true; reading = None } }) h) h)
+        (cond_peer In (has_shown y.stamp p.engage r) _ _ (contact_leave y.turn y.stamp (record p { engage = record p.engage { shown = true; reading = None } }) h) h)
         (cond_peer In (is_wrong y.part r.done w) _ _ h h)))
 
     peer_leaves : (y : Here) (p : Peer) (g : PeerGoing) (m : PeerRule) (w : ℕ) → In p → In (peer_effect y (record p { numbers = g }) m w).local
@@ -140,9 +140,10 @@ module _ (N : End → LinkRule → Type 0) (P : End → Type 0) (z : EndKeeps N 
     peer_leaves y p g SetEngagementBit w h = h
     peer_leaves y p g ReadRecord w h = read_leave y (record p { numbers = g }) p.engage.reading w h
     peer_leaves y p g StoreEcho w h = h
-    peer_leaves y p g StoreSecond w h = contact_leave y.stamp (record p { numbers = g; engage = record p.engage { second = true } }) h
+    peer_leaves y p g StoreSecond w h = contact_leave y.turn y.stamp (record p { numbers = g; engage = record p.engage { second = true } }) h
     peer_leaves y p g ClearEngagementBit w h = h
     peer_leaves y p g LookAtPage w h = cond_peer In _ _ _ h h
+    peer_leaves y p g CheckBeat w h = h
     peer_leaves y p g ClearDeactivationBit w h = h
     peer_leaves y p g TellPartner w h = h
 
@@ -197,6 +198,8 @@ module _ (N : End → LinkRule → Type 0) (P : End → Type 0) (z : EndKeeps N 
       rule_leaves st (Own WriteStamp) (Word w) can n h = h
       rule_leaves st (Own StoreMask) (Word w) can n h = h
       rule_leaves st (Own TakeActivation) (Word w) can n h = h
+      rule_leaves st (Own StoreBeat) (Word w) can n h = h
+      rule_leaves st (Own StoreOffline) (Word w) can n h = h
       rule_leaves st (Own m) Failed can n h = h
 
       -- a boot begins

@@ -21,7 +21,7 @@ use Rattle.xp_rounds.proofs.Sources.{Paced, planned_paced}
 use Rattle.xp_rounds.proofs.Spots.{Spot}
 use Rattle.xp_protocol.specs.declared.contact.Contact.{Contact}
 use Rattle.xp_protocol.specs.declared.rule.PeerRule.{PeerRule}
-use Rattle.xp_protocol.specs.declared.rule.PeerRule.TheVariants.{AskActivation, TakeFlags, CloseArea, ZeroMagic, ClearOldBit, Prepare, OpenArea, SetEngagementBit, ReadRecord, StoreEcho, StoreSecond, ClearEngagementBit, LookAtPage, ClearDeactivationBit, TellPartner}
+use Rattle.xp_protocol.specs.declared.rule.PeerRule.TheVariants.{AskActivation, TakeFlags, CloseArea, ZeroMagic, ClearOldBit, Prepare, OpenArea, SetEngagementBit, ReadRecord, StoreEcho, StoreSecond, ClearEngagementBit, LookAtPage, CheckBeat, ClearDeactivationBit, TellPartner}
 use Rattle.xp_protocol.specs.declared.rule.AreaWord.{AreaWord}
 use Rattle.xp_protocol.specs.declared.rule.AreaWord.TheVariants.{SessionWord, EchoWord, PlaceWord, ArgsWord, FlagWord, CounterWord}
 use Rattle.xp_protocol.specs.declared.rule.Rule.{Rule}
@@ -73,12 +73,12 @@ left_placed : (o : Option Reason) (p : Peer) → Placed p → Placed (area_left_
 left_placed None p h = h
 left_placed (Some r) p h = λ x e. absurd (cc)
 
-contact_placed : (stamp : ℕ) (p : Peer) → Placed p → Placed (try_contact stamp p).local
-contact_placed stamp p h = cond_peer Placed (p.engage.second && (p.engage.shown && not (is_some p.contact))) (contact_made stamp p) (same_peer p) h h
+contact_placed : (turn stamp : ℕ) (p : Peer) → Placed p → Placed (try_contact turn stamp p).local
+contact_placed turn stamp p h = cond_peer Placed (p.engage.second && (p.engage.shown && not (is_some p.contact))) (contact_made turn stamp p) (same_peer p) h h
 
-on_placed : (b : Bool) (y : Here) (p : Peer) (r : Reading) (w : ℕ) → nat_eq r.done 7 ≡ b → 0 < r.done → r.done < 8 → Placed (if b then (if has_shown y.stamp p.engage r then try_contact y.stamp (record p { engage = record p.engage { shown = true; reading = None } }) else same_peer (record p { engage = record p.engage { reading = None } }))
+on_placed : (b : Bool) (y : Here) (p : Peer) (r : Reading) (w : ℕ) → nat_eq r.done 7 ≡ b → 0 < r.done → r.done < 8 → Placed (if b then (if has_shown y.stamp p.engage r then try_contact y.turn y.stamp (record p { engage = record p.engage { shown = true; reading = None } }) else same_peer (record p { engage = record p.engage { reading = None } }))
     else place_read y.part p r w).local
-on_placed true y p r w e a b = cond_peer Placed (has_shown y.stamp p.engage r) _ _ (contact_placed y.stamp (record p { engage = record p.engage { shown = true; reading = None } }) (none_placed (record p { engage = record p.engage { shown = true; reading = None } }) refl)) (none_placed (record p { engage = record p.engage { reading = None } }) refl)
+on_placed true y p r w e a b = cond_peer Placed (has_shown y.stamp p.engage r) _ _ (contact_placed y.turn y.stamp (record p { engage = record p.engage { shown = true; reading = None } }) (none_placed (record p { engage = record p.engage { shown = true; reading = None } }) refl)) (none_placed (record p { engage = record p.engage { reading = None } }) refl)
 on_placed false y p r w e a b = cond_peer Placed (is_wrong y.part r.done w) _ _ (none_placed (record p { engage = record p.engage { reading = None } }) refl) (at_placed (record p { engage = record p.engage { reading = Some (record r { done = r.done + 1 }) } }) (record r { done = r.done + 1 }) refl (omega arith) (let n : r.done ≡ 7 → ⊥ = seven r.done e in omega (arith, b, n))) where
   seven : (n : ℕ) → nat_eq n 7 ≡ false → n ≡ 7 → ⊥
   seven n f g = grind (arith, nat_tests)
@@ -113,21 +113,22 @@ placed_word y p g OpenArea w h = h
 placed_word y p g SetEngagementBit w h = λ r e. absurd (cc)
 placed_word y p g ReadRecord w h = read_placed y (record p { numbers = g }) p.engage.reading w refl h
 placed_word y p g StoreEcho w h = h
-placed_word y p g StoreSecond w h = contact_placed y.stamp (record p { numbers = g; engage = record p.engage { second = true } }) h
+placed_word y p g StoreSecond w h = contact_placed y.turn y.stamp (record p { numbers = g; engage = record p.engage { second = true } }) h
 placed_word y p g ClearEngagementBit w h = h
 placed_word y p g LookAtPage w h = cond_peer Placed _ _ _ h h
+placed_word y p g CheckBeat w h = h
 placed_word y p g ClearDeactivationBit w h = h
 placed_word y p g TellPartner w h = h
 
-placed_ended : (kind : CopyKind) (p : Peer) → Placed p → Placed (copy_ended kind p)
-placed_ended RecordCopy p h = λ r e. absurd (cc)
-placed_ended kind p h = h
+placed_ended : (turn : ℕ) (kind : CopyKind) (p : Peer) → Placed p → Placed (copy_ended turn kind p)
+placed_ended turn RecordCopy p h = λ r e. absurd (cc)
+placed_ended turn kind p h = h
 
 abbrev Whatever : Peer → PeerRule → Type 0
 Whatever p m = Unit {0}
 
 placed_steps : StepsLeave Whatever Placed
-placed_steps = record { linked = λ p links going some h. h; reasoned = λ o p h. h; ended = λ kind p m n h. placed_ended kind p h; freed = λ p l h. h; steps = λ y p g m w can n h. placed_word y p g m w h }
+placed_steps = record { linked = λ p links going some h. h; reasoned = λ o p h. h; ended = λ turn kind p m k n h. placed_ended turn kind p h; freed = λ p l h. h; steps = λ y p g m w can n h. placed_word y p g m w h }
 
 -- no copy of the record of a partner goes on that is left
 abbrev pub Unread : Peer → Type 0
@@ -154,8 +155,8 @@ prepared_area (CounterWord d f) x = refl
 off_unread : (p : Peer) → p.engage.area ≡ Off → Unread p
 off_unread p e f = absurd (let g : Off ≡ Leaving = sym e ∙ f in cc)
 
-contact_unread : (stamp : ℕ) (p : Peer) → p.engage.area ≡ Ready → Unread (try_contact stamp p).local
-contact_unread stamp p e = cond_peer Unread (p.engage.second && (p.engage.shown && not (is_some p.contact))) (contact_made stamp p) (same_peer p) (λ f. ready_unread p e f) (ready_unread p e)
+contact_unread : (turn stamp : ℕ) (p : Peer) → p.engage.area ≡ Ready → Unread (try_contact turn stamp p).local
+contact_unread turn stamp p e = cond_peer Unread (p.engage.second && (p.engage.shown && not (is_some p.contact))) (contact_made turn stamp p) (same_peer p) (λ f. ready_unread p e f) (ready_unread p e)
 
 read_unread : (y : Here) (p : Peer) (o : Option Reading) (w : ℕ) → p.engage.area ≡ Ready → Unread (record_read y p o w).local
 read_unread y p None w e = cond_peer Unread (nat_eq w 0) _ _ (ready_unread (record p { engage = record p.engage { back_off = p.engage.back_off || not (is_some p.engage.echo) } }) e) (cond_peer Unread (is_magic w) _ _ (ready_unread (record p { engage = record p.engage { reading = Some (record { done = 1; after_echo = is_some p.engage.echo; magic = w; echo = 0 }) } }) e) (ready_unread p e))
@@ -163,7 +164,7 @@ read_unread y p (Some r) w e =
     cond_peer Unread (nat_eq r.done 1) _ _ (ready_unread (record p { engage = record p.engage { read = Some w; reading = Some (record r { done = 2 }) } }) e)
     (cond_peer Unread (nat_eq r.done 2) _ _ (ready_unread (record p { engage = record p.engage { reading = Some (record r { done = 3; echo = w }) } }) e)
     (cond_peer Unread (nat_eq r.done 7) _ _
-    (cond_peer Unread (has_shown y.stamp p.engage r) _ _ (contact_unread y.stamp (record p { engage = record p.engage { shown = true; reading = None } }) e) (ready_unread (record p { engage = record p.engage { reading = None } }) e))
+    (cond_peer Unread (has_shown y.stamp p.engage r) _ _ (contact_unread y.turn y.stamp (record p { engage = record p.engage { shown = true; reading = None } }) e) (ready_unread (record p { engage = record p.engage { reading = None } }) e))
     (cond_peer Unread (is_wrong y.part r.done w) _ _ (ready_unread (record p { engage = record p.engage { reading = None } }) e) (ready_unread (record p { engage = record p.engage { reading = Some (record r { done = r.done + 1 }) } }) e))))
 
 unread_word : (y : Here) (p : Peer) (g : PeerGoing) (m : PeerRule) (w : ℕ) → peer_can y p m → Unread p → Unread (peer_effect y (record p { numbers = g }) m w).local
@@ -177,18 +178,19 @@ unread_word y p g OpenArea w can h = λ e. absurd (cc)
 unread_word y p g SetEngagementBit w can h = λ e. refl
 unread_word y p g ReadRecord w can h = read_unread y (record p { numbers = g }) p.engage.reading w can.0
 unread_word y p g StoreEcho w can h = h
-unread_word y p g StoreSecond w can h = contact_unread y.stamp (record p { numbers = g; engage = record p.engage { second = true } }) can.0
+unread_word y p g StoreSecond w can h = contact_unread y.turn y.stamp (record p { numbers = g; engage = record p.engage { second = true } }) can.0
 unread_word y p g ClearEngagementBit w can h = h
 unread_word y p g LookAtPage w can h = cond_peer Unread _ _ _ h h
+unread_word y p g CheckBeat w can h = h
 unread_word y p g ClearDeactivationBit w can h = h
 unread_word y p g TellPartner w can h = h
 
-unread_ended : (kind : CopyKind) (p : Peer) → Unread p → Unread (copy_ended kind p)
-unread_ended RecordCopy p h = λ e. refl
-unread_ended kind p h = h
+unread_ended : (turn : ℕ) (kind : CopyKind) (p : Peer) → Unread p → Unread (copy_ended turn kind p)
+unread_ended turn RecordCopy p h = λ e. refl
+unread_ended turn kind p h = h
 
 unread_steps : StepsLeave Whatever Unread
-unread_steps = record { linked = λ p links going some h. h; reasoned = λ o p h. h; ended = λ kind p m n h. unread_ended kind p h; freed = λ p l h. λ e. absurd (cc); steps = λ y p g m w can n h. unread_word y p g m w can h }
+unread_steps = record { linked = λ p links going some h. h; reasoned = λ o p h. h; ended = λ turn kind p m k n h. unread_ended turn kind p h; freed = λ p l h. λ e. absurd (cc); steps = λ y p g m w can n h. unread_word y p g m w can h }
 
 unread_next : (s : ScenarioPart) (q : ℕ) (st : State) (t : Turn) → May s st t → Unread (peer_of st q) → Unread (peer_of (after_turn s st t) q)
 unread_next s q st t may h =

@@ -16,8 +16,8 @@ use Rattle.xp_script.specs.declared.part.ScenarioPart.{ScenarioPart}
 use Rattle.xp_protocol.specs.declared.contact.Contact.{Contact}
 use Rattle.xp_protocol.specs.declared.rule.LinkRule.{LinkRule}
 use Rattle.xp_protocol.specs.declared.rule.PeerRule.{PeerRule}
-use Rattle.xp_protocol.specs.declared.rule.PeerRule.TheVariants.{AskActivation, TakeFlags, CloseArea, ZeroMagic, ClearOldBit, Prepare, OpenArea, SetEngagementBit, ReadRecord, StoreEcho, StoreSecond, ClearEngagementBit, LookAtPage, ClearDeactivationBit, TellPartner}
-use Rattle.xp_protocol.specs.declared.rule.OwnRule.TheVariants.{ReadEngaged, TakeDeactivation, ReadStamp, ZeroMask, ZeroOffline, WriteStamp, StoreMask, TakeActivation}
+use Rattle.xp_protocol.specs.declared.rule.PeerRule.TheVariants.{AskActivation, TakeFlags, CloseArea, ZeroMagic, ClearOldBit, Prepare, OpenArea, SetEngagementBit, ReadRecord, StoreEcho, StoreSecond, ClearEngagementBit, LookAtPage, CheckBeat, ClearDeactivationBit, TellPartner}
+use Rattle.xp_protocol.specs.declared.rule.OwnRule.TheVariants.{ReadEngaged, TakeDeactivation, ReadStamp, ZeroMask, ZeroOffline, WriteStamp, StoreMask, TakeActivation, StoreBeat, StoreOffline}
 use Rattle.xp_protocol.specs.declared.rule.Rule.{Rule}
 use Rattle.xp_protocol.specs.declared.rule.Rule.TheVariants.{Link, Peer as ForPeer, Own}
 use Rattle.xp_protocol.specs.Effects.{Effect, Note}
@@ -133,8 +133,8 @@ module _ (P : End → Type 0) (flags : (ks : Kinds) (e : End) → P e → P (fla
   flags_leave true y p w e h low = rw e h
   flags_leave false y p w e h low = rw e (at_each P (λ d x. (flags_got (kinds_in w d) x).local) p.links c idle_end (flags (kinds_in w c) (link_at p.links c) h) (λ l. absurd (omega (arith, l, low))))
 
-  second_leaves : (t : ℕ) (p : Peer) → IsSome p.contact → Stands p → Stands (if p.engage.second && (p.engage.shown && not (is_some p.contact)) then contact_made t p else same_peer p).local
-  second_leaves t p met h = rw (no_new p.engage.second p.engage.shown p.contact met) h
+  second_leaves : (turn stamp : ℕ) (p : Peer) → IsSome p.contact → Stands p → Stands (if p.engage.second && (p.engage.shown && not (is_some p.contact)) then contact_made turn stamp p else same_peer p).local
+  second_leaves turn stamp p met h = rw (no_new p.engage.second p.engage.shown p.contact met) h
 
   peer_leaves : (y : Here) (p : Peer) (g : PeerGoing) (m : PeerRule) (w : ℕ) → peer_can y p m → IsSome p.contact → p.engage.reason ≡ None → c < length p.links → Stands p → Stands (peer_effect y (record p { numbers = g }) m w).local
   peer_leaves y p g AskActivation w can met free low h = h
@@ -147,9 +147,10 @@ module _ (P : End → Type 0) (flags : (ks : Kinds) (e : End) → P e → P (fla
   peer_leaves y p g SetEngagementBit w can met free low h = h
   peer_leaves y p g ReadRecord w can met free low h = absurd (no_contact p.contact can.3 met)
   peer_leaves y p g StoreEcho w can met free low h = h
-  peer_leaves y p g StoreSecond w can met free low h = second_leaves y.stamp (record p { numbers = g; engage = record p.engage { second = true } }) met h
+  peer_leaves y p g StoreSecond w can met free low h = second_leaves y.turn y.stamp (record p { numbers = g; engage = record p.engage { second = true } }) met h
   peer_leaves y p g ClearEngagementBit w can met free low h = h
   peer_leaves y p g LookAtPage w can met free low h = cond_peer Stands _ _ _ h h
+  peer_leaves y p g CheckBeat w can met free low h = h
   peer_leaves y p g ClearDeactivationBit w can met free low h = h
   peer_leaves y p g TellPartner w can met free low h = h
 
@@ -199,6 +200,8 @@ module _ (P : End → Type 0) (flags : (ks : Kinds) (e : End) → P e → P (fla
     rule_keeps st (Own WriteStamp) (Word w) can met low own h = inr h
     rule_keeps st (Own StoreMask) (Word w) can met low own h = inr h
     rule_keeps st (Own TakeActivation) (Word w) can met low own h = inr h
+    rule_keeps st (Own StoreBeat) (Word w) can met low own h = inr h
+    rule_keeps st (Own StoreOffline) (Word w) can met low own h = inr h
     rule_keeps st (Own m) Failed can met low own h = inr h
 
     -- a turn leaves it, or else comes of its step

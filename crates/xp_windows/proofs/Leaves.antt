@@ -19,8 +19,8 @@ use Rattle.xp_rounds.proofs.Visits.{Fits}
 use Rattle.xp_rounds.proofs.Duties.{Along, Duty, done}
 use Rattle.xp_rounds.proofs.Spots.{Spot}
 use Rattle.xp_protocol.specs.declared.rule.PeerRule.{PeerRule}
-use Rattle.xp_protocol.specs.declared.rule.PeerRule.TheVariants.{AskActivation, TakeFlags, CloseArea, ZeroMagic, ClearOldBit, Prepare, OpenArea, SetEngagementBit, ReadRecord, StoreEcho, StoreSecond, ClearEngagementBit, LookAtPage, ClearDeactivationBit, TellPartner}
-use Rattle.xp_protocol.specs.declared.rule.OwnRule.TheVariants.{ReadEngaged, TakeDeactivation, ReadStamp, ZeroMask, ZeroOffline, WriteStamp, StoreMask, TakeActivation}
+use Rattle.xp_protocol.specs.declared.rule.PeerRule.TheVariants.{AskActivation, TakeFlags, CloseArea, ZeroMagic, ClearOldBit, Prepare, OpenArea, SetEngagementBit, ReadRecord, StoreEcho, StoreSecond, ClearEngagementBit, LookAtPage, CheckBeat, ClearDeactivationBit, TellPartner}
+use Rattle.xp_protocol.specs.declared.rule.OwnRule.TheVariants.{ReadEngaged, TakeDeactivation, ReadStamp, ZeroMask, ZeroOffline, WriteStamp, StoreMask, TakeActivation, StoreBeat, StoreOffline}
 use Rattle.xp_protocol.specs.declared.rule.Rule.{Rule}
 use Rattle.xp_protocol.specs.declared.rule.Rule.TheVariants.{Link, Peer as ForPeer, Own}
 use Rattle.xp_protocol.specs.Effects.{first_reason}
@@ -47,7 +47,7 @@ use Rattle.xp_windows.proofs.Asked.{steps_by}
 pub record Stays (Q : Engage → Type 0) (goal : PeerRule) : Type 0 where
   pub unwanted : (p : Peer) → Q p.engage → Q (unwanted p).engage
   pub reasoned : (o : Option Reason) (p : Peer) → Q p.engage → Q (with_reason o p).engage
-  pub ended : (kind : CopyKind) (p : Peer) → Q p.engage → Q (copy_ended kind p).engage
+  pub ended : (turn : ℕ) (kind : CopyKind) (p : Peer) → Q p.engage → Q (copy_ended turn kind p).engage
   pub left : (x : Engage) → Q x → is_left x ≡ false
   pub steps : (y : Here) (p : Peer) (g : PeerGoing) (m : PeerRule) (w : ℕ) → peer_life m ≡ Up → peer_can y p m → Q p.engage → (m ≡ goal) ⊎ Q (peer_effect y (record p { numbers = g }) m w).local.engage
 
@@ -74,7 +74,7 @@ module _ (Q : Engage → Type 0) (goal : PeerRule) (z : Stays Q goal) (boot : �
   answers_stay y None p m (Word w) up can h = z.steps y p p.numbers m w up can h
   answers_stay y (Some mark) p m (Word w) up can h = z.steps y p _ m w up can h
   answers_stay y None p m Failed up can h = inr h
-  answers_stay y (Some mark) p m Failed up can h = inr (z.ended mark.kind p h)
+  answers_stay y (Some mark) p m Failed up can h = inr (z.ended y.turn mark.kind p h)
 
   read_stays : (b : Bool) (p : Peer) → b ≡ false → On p → On (if b then area_off p else same_peer p).local
   read_stays false p e h = h
@@ -111,6 +111,8 @@ module _ (Q : Engage → Type 0) (goal : PeerRule) (z : Stays Q goal) (boot : �
   rule_stays st (Own WriteStamp) (Word w) up can h = inr h
   rule_stays st (Own StoreMask) (Word w) up can h = inr h
   rule_stays st (Own TakeActivation) (Word w) up can h = inr h
+  rule_stays st (Own StoreBeat) (Word w) up can h = inr h
+  rule_stays st (Own StoreOffline) (Word w) up can h = inr h
   rule_stays st (Own m) Failed up can h = inr h
 
   -- no boot begins in the window
@@ -224,6 +226,7 @@ close_steps y p g ClearEngagementBit w up can h = absurd (by can.2) where
   by (inl x) = free_not p.engage.reason h.1 x.1
   by (inr x) = leaving_not p.engage.area h.0 x.0
 close_steps y p g LookAtPage w up can h = inr (cond_peer (λ (x : Peer). Condemned x.engage) _ _ _ h h)
+close_steps y p g CheckBeat w up can h = inr h
 close_steps y p g ClearDeactivationBit w up can h = absurd (off_not p.engage.area h.0 can)
 close_steps y p g TellPartner w up can h = absurd (leaving_not p.engage.area h.0 can.0)
 
@@ -231,7 +234,7 @@ close_stays : Stays Condemned CloseArea
 close_stays = record {
   unwanted = λ p h. (h.0, first_some p.engage.reason (if is_ready p.engage.area then Some Unloading else None) h.1);
   reasoned = λ o p h. (h.0, first_some p.engage.reason (if is_ready p.engage.area then o else None) h.1);
-  ended = λ kind p h. h;
+  ended = λ turn kind p h. h;
   left = λ x h. ready_left x.area x.bit h.0;
   steps = close_steps;
 }
@@ -290,6 +293,7 @@ tell_steps y p g ClearEngagementBit w up can h = absurd (by can.2) where
   by (inl x) = ready_not p.engage.area h.0 x.0
   by (inr x) = tell_not p.engage.told h.2 x.1
 tell_steps y p g LookAtPage w up can h = inr (cond_peer (λ (x : Peer). Untold x.engage) _ _ _ h h)
+tell_steps y p g CheckBeat w up can h = inr h
 tell_steps y p g ClearDeactivationBit w up can h = absurd (free_area p.engage.area h.0 can)
 tell_steps y p g TellPartner w up can h = inl refl
 
@@ -297,7 +301,7 @@ tell_stays : Stays Untold TellPartner
 tell_stays = record {
   unwanted = λ p h. h;
   reasoned = λ o p h. h;
-  ended = λ kind p h. h;
+  ended = λ turn kind p h. h;
   left = λ x h. untold_left x.area x.bit h.0 h.1;
   steps = tell_steps;
 }

@@ -18,6 +18,7 @@ pub mod Peers
 pub mod PeerFrames
 pub mod Planned
 pub mod Looks
+pub mod Checks
 pub mod EndFrames
 pub mod Engaged
 pub mod Rests

@@ -7,7 +7,7 @@ use Rattle.xp_base.specs.declared.step.Answer.TheVariants.{Word, Failed}
 use Rattle.xp_base.specs.History.{Act, Marked, Turn}
 use Rattle.xp_script.specs.declared.part.ScenarioPart.{ScenarioPart}
 use Rattle.xp_protocol.specs.declared.rule.OwnRule.{OwnRule}
-use Rattle.xp_protocol.specs.declared.rule.OwnRule.TheVariants.{ReadEngaged, TakeDeactivation, ReadStamp, ZeroMask, ZeroOffline, WriteStamp, StoreMask, TakeActivation}
+use Rattle.xp_protocol.specs.declared.rule.OwnRule.TheVariants.{ReadEngaged, TakeDeactivation, ReadStamp, ZeroMask, ZeroOffline, WriteStamp, StoreMask, TakeActivation, StoreBeat, StoreOffline}
 use Rattle.xp_protocol.specs.declared.rule.Rule.{Rule}
 use Rattle.xp_protocol.specs.declared.rule.Rule.TheVariants.{Link, Peer as ForPeer, Own}
 use Rattle.xp_protocol.specs.State.{State, Script, Peer, Life, Booting, Halted}
@@ -45,6 +45,8 @@ own_booting ReadEngaged w life e = e
 own_booting TakeDeactivation w life e = e
 own_booting StoreMask w life e = e
 own_booting TakeActivation w life e = e
+own_booting StoreBeat w life e = e
+own_booting StoreOffline w life e = e
 
 pub rule_booting : (s : ScenarioPart) (st : State) (r : Rule) (a : Answer) → (after_answer s st r a).life ≡ Booting → st.life ≡ Booting
 rule_booting s st (Link q c m) a e = e

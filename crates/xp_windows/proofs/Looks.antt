@@ -22,7 +22,7 @@ use Rattle.xp_rounds.proofs.Duties.{Along, Moved}
 use Rattle.xp_rounds.proofs.Asides.{Duty, done}
 use Rattle.xp_rounds.proofs.Spots.{Spot}
 use Rattle.xp_protocol.specs.declared.rule.PeerRule.{PeerRule}
-use Rattle.xp_protocol.specs.declared.rule.PeerRule.TheVariants.{AskActivation, TakeFlags, CloseArea, ZeroMagic, ClearOldBit, Prepare, OpenArea, SetEngagementBit, ReadRecord, StoreEcho, StoreSecond, ClearEngagementBit, LookAtPage, ClearDeactivationBit, TellPartner}
+use Rattle.xp_protocol.specs.declared.rule.PeerRule.TheVariants.{AskActivation, TakeFlags, CloseArea, ZeroMagic, ClearOldBit, Prepare, OpenArea, SetEngagementBit, ReadRecord, StoreEcho, StoreSecond, ClearEngagementBit, LookAtPage, CheckBeat, ClearDeactivationBit, TellPartner}
 use Rattle.xp_protocol.specs.declared.rule.Rule.{Rule}
 use Rattle.xp_protocol.specs.declared.rule.Rule.TheVariants.{Link, Peer as ForPeer, Own}
 use Rattle.xp_protocol.specs.Effects.{Effect, Note}
@@ -63,14 +63,14 @@ left_pages : (words : List ℕ) (o : Option Reason) (p : Peer) → Pages words p
 left_pages words None p h = h
 left_pages words (Some r) p h = h
 
-contact_pages : (words : List ℕ) (stamp : ℕ) (p : Peer) → Pages words p → Pages words (try_contact stamp p).local
-contact_pages words stamp p h = cond_peer (Pages words) (p.engage.second && (p.engage.shown && not (is_some p.contact))) (contact_made stamp p) (same_peer p) h h
+contact_pages : (words : List ℕ) (turn stamp : ℕ) (p : Peer) → Pages words p → Pages words (try_contact turn stamp p).local
+contact_pages words turn stamp p h = cond_peer (Pages words) (p.engage.second && (p.engage.shown && not (is_some p.contact))) (contact_made turn stamp p) (same_peer p) h h
 
 read_pages : (words : List ℕ) (y : Here) (p : Peer) (o : Option Reading) (w : ℕ) → Pages words p → Pages words (record_read y p o w).local
 read_pages words y p None w h = cond_peer (Pages words) (nat_eq w 0) _ _ h (cond_peer (Pages words) (is_magic w) _ _ h h)
 read_pages words y p (Some r) w h =
     cond_peer (Pages words) (nat_eq r.done 1) _ _ h (cond_peer (Pages words) (nat_eq r.done 2) _ _ h (cond_peer (Pages words) (nat_eq r.done 7) _ _
-    (cond_peer (Pages words) (has_shown y.stamp p.engage r) _ _ (contact_pages words y.stamp (record p { engage = record p.engage { shown = true; reading = None } }) h) h)
+    (cond_peer (Pages words) (has_shown y.stamp p.engage r) _ _ (contact_pages words y.turn y.stamp (record p { engage = record p.engage { shown = true; reading = None } }) h) h)
     (cond_peer (Pages words) (is_wrong y.part r.done w) _ _ h h)))
 
 pages_word : (words : List ℕ) (y : Here) (p : Peer) (g : PeerGoing) (m : PeerRule) (w : ℕ) → Other p m → Pages words p → Pages words (peer_effect y (record p { numbers = g }) m w).local
@@ -84,20 +84,21 @@ pages_word words y p g OpenArea w n h = h
 pages_word words y p g SetEngagementBit w n h = h
 pages_word words y p g ReadRecord w n h = read_pages words y (record p { numbers = g }) p.engage.reading w h
 pages_word words y p g StoreEcho w n h = h
-pages_word words y p g StoreSecond w n h = contact_pages words y.stamp (record p { numbers = g; engage = record p.engage { second = true } }) h
+pages_word words y p g StoreSecond w n h = contact_pages words y.turn y.stamp (record p { numbers = g; engage = record p.engage { second = true } }) h
 pages_word words y p g ClearEngagementBit w n h = h
 pages_word words y p g LookAtPage w n h = absurd (n refl)
+pages_word words y p g CheckBeat w n h = h
 pages_word words y p g ClearDeactivationBit w n h = h
 pages_word words y p g TellPartner w n h = h
 
 -- a load that fails ends the look where it is its own, and so does any that empties it
-ended_pages : (words : List ℕ) (kind : CopyKind) (p : Peer) → words ≡ [] → Pages words p → Pages words (copy_ended kind p)
-ended_pages words PageCopy p none h = sym none
-ended_pages words kind p none h = h
+ended_pages : (words : List ℕ) (turn : ℕ) (kind : CopyKind) (p : Peer) → words ≡ [] → Pages words p → Pages words (copy_ended turn kind p)
+ended_pages words turn PageCopy p none h = sym none
+ended_pages words turn kind p none h = h
 
 -- where no look goes on, each other step leaves that
 none_steps : StepsLeave Other (Pages [])
-none_steps = record { linked = λ p links going some h. h; reasoned = λ o p h. h; ended = λ kind p m n h. ended_pages [] kind p refl h; freed = λ p l h. h; steps = λ y p g m w can n h. pages_word [] y p g m w n h }
+none_steps = record { linked = λ p links going some h. h; reasoned = λ o p h. h; ended = λ turn kind p m k n h. ended_pages [] turn kind p refl h; freed = λ p l h. h; steps = λ y p g m w can n h. pages_word [] y p g m w n h }
 
 -- what a load of a look makes of it
 abbrev Turned : ℕ → Peer → Type 0
@@ -150,6 +151,7 @@ is_look q (ForPeer k LookAtPage) = by (cases_eq k q) where
   by : (k ≡ q) ⊎ (k ≡ q → ⊥) → Looks q (ForPeer k LookAtPage) ⊎ (Looks q (ForPeer k LookAtPage) → ⊥)
   by (inl e) = inl (ap (λ (j : ℕ). ForPeer j LookAtPage) e)
   by (inr n) = inr (λ e. n (cc))
+is_look q (ForPeer k CheckBeat) = inr (λ e. cc)
 is_look q (ForPeer k AskActivation) = inr (λ e. cc)
 is_look q (ForPeer k TakeFlags) = inr (λ e. cc)
 is_look q (ForPeer k CloseArea) = inr (λ e. cc)
@@ -406,7 +408,7 @@ module _ (s : ScenarioPart) (q : ℕ) (x : Spot s.part s.count q) where
         (Some (ForPeer q LookAtPage), asks_on used (middle s st t) a.more.up.1.up (inr (omega (arith, l, some))), λ e. goes_now v st t ts n used a w.0 w.1 l e)
 
     fits_by : (b : Bool) → Fits (plan_of s) errands.Look (errands_of (if b then agendas.Joined else agendas.Apart))
-    fits_by true = record { front = []; back = errands.Flags ∷ errands.Signal 0 ∷ errands.Signal 1 ∷ errands.Signal 2 ∷ errands.Signal 3 ∷ errands.Counters 0 ∷ errands.Counters 1 ∷ errands.Counters 2 ∷ errands.Counters 3 ∷ errands.Bulk ∷ errands.Leave ∷ []; is = refl; low = omega arith }
+    fits_by true = record { front = []; back = errands.Flags ∷ errands.Check ∷ errands.Signal 0 ∷ errands.Signal 1 ∷ errands.Signal 2 ∷ errands.Signal 3 ∷ errands.Counters 0 ∷ errands.Counters 1 ∷ errands.Counters 2 ∷ errands.Counters 3 ∷ errands.Bulk ∷ errands.Leave ∷ []; is = refl; low = omega arith }
     fits_by false = record { front = []; back = errands.Prepare ∷ errands.Engage ∷ errands.Answer ∷ errands.Record ∷ errands.Answer ∷ errands.Leave ∷ errands.Bulk ∷ []; is = refl; low = omega arith }
 
     fits : (st : State) → IsUp boot st → Fits (plan_of s) errands.Look ((plan_of s).errands x.number st)

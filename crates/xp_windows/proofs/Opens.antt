@@ -17,7 +17,7 @@ use Rattle.xp_rounds.proofs.Duties.{Along, Moved}
 use Rattle.xp_rounds.proofs.Asides.{Duty, done}
 use Rattle.xp_rounds.proofs.Spots.{Spot}
 use Rattle.xp_protocol.specs.declared.rule.PeerRule.{PeerRule}
-use Rattle.xp_protocol.specs.declared.rule.PeerRule.TheVariants.{AskActivation, TakeFlags, CloseArea, ZeroMagic, ClearOldBit, Prepare, OpenArea, SetEngagementBit, ReadRecord, StoreEcho, StoreSecond, ClearEngagementBit, LookAtPage, ClearDeactivationBit, TellPartner}
+use Rattle.xp_protocol.specs.declared.rule.PeerRule.TheVariants.{AskActivation, TakeFlags, CloseArea, ZeroMagic, ClearOldBit, Prepare, OpenArea, SetEngagementBit, ReadRecord, StoreEcho, StoreSecond, ClearEngagementBit, LookAtPage, CheckBeat, ClearDeactivationBit, TellPartner}
 use Rattle.xp_protocol.specs.declared.rule.Rule.{Rule}
 use Rattle.xp_protocol.specs.declared.rule.Rule.TheVariants.{Peer as ForPeer}
 use Rattle.xp_protocol.specs.Parts.{fails_at}
@@ -101,6 +101,7 @@ open_steps y p g ClearEngagementBit w can n h = absurd (by can.2) where
   by (inl c) = off_ready p.engage.area h.0 c.0
   by (inr c) = off_leaving p.engage.area h.0 c.0
 open_steps y p g LookAtPage w can n h = inr (cond_peer (λ (x : Peer). Free x.engage) _ _ _ h h)
+open_steps y p g CheckBeat w can n h = inr h
 open_steps y p g ClearDeactivationBit w can n h = inr h
 open_steps y p g TellPartner w can n h = absurd (off_leaving p.engage.area h.0 can.0)
 
@@ -109,7 +110,7 @@ open_awaits = record {
   acts = record { linked = λ p links h. h; unwanted = λ p h. h; wanted = λ p h. h };
   linked = λ p links going h. h;
   reasoned = λ o p h. h;
-  ended = λ kind p h. h;
+  ended = λ turn kind p m k h. inr h;
   freed = λ p l h. off_left p.engage.area p.engage.bit h.0 l;
   steps = open_steps;
 }

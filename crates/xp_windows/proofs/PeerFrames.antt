@@ -9,12 +9,14 @@ use Rattle.xp_base.specs.declared.reason.Reason.TheVariants.{OtherGoingDown}
 use Rattle.xp_base.specs.declared.step.Answer.{Answer}
 use Rattle.xp_base.specs.declared.step.Answer.TheVariants.{Word, Failed}
 use Rattle.xp_base.specs.declared.step.CopyKind.{CopyKind}
+use Rattle.xp_base.specs.declared.step.CopyKind.TheVariants.{Page as PageCopy, Beat as BeatCopy, Record as RecordCopy}
 use Rattle.xp_base.specs.declared.step.CopyMark.{CopyMark}
 use Rattle.xp_base.specs.History.{Act, Marked, Turn}
 use Rattle.xp_script.specs.declared.part.Link.{Link as ScenarioLink}
 use Rattle.xp_script.specs.declared.part.ScenarioPart.{ScenarioPart}
 use Rattle.xp_protocol.specs.declared.rule.PeerRule.{PeerRule}
-use Rattle.xp_protocol.specs.declared.rule.OwnRule.TheVariants.{ReadEngaged, TakeDeactivation, ReadStamp, ZeroMask, ZeroOffline, WriteStamp, StoreMask, TakeActivation}
+use Rattle.xp_protocol.specs.declared.rule.PeerRule.TheVariants.{AskActivation, TakeFlags, CloseArea, ZeroMagic, ClearOldBit, Prepare, OpenArea, SetEngagementBit, ReadRecord, StoreEcho, StoreSecond, ClearEngagementBit, LookAtPage, CheckBeat, ClearDeactivationBit, TellPartner}
+use Rattle.xp_protocol.specs.declared.rule.OwnRule.TheVariants.{ReadEngaged, TakeDeactivation, ReadStamp, ZeroMask, ZeroOffline, WriteStamp, StoreMask, TakeActivation, StoreBeat, StoreOffline}
 use Rattle.xp_protocol.specs.declared.rule.Rule.{Rule}
 use Rattle.xp_protocol.specs.declared.rule.Rule.TheVariants.{Link, Peer as ForPeer, Own}
 use Rattle.xp_protocol.specs.State.{State, End, Going, Peer, PeerGoing, Old, cold_peer, end_of, peer_at, peer_of, set_link, warm_peer, opened_new, opened_peers, base_peer, first_peers, opened_state}
@@ -29,6 +31,38 @@ use Rattle.xp_windows.specs.Windows.{middle, Steps, IsFor}
 use Rattle.xp_windows.specs.Visited.{rule_by, rule_made}
 use Rattle.xp_windows.proofs.Lives.{on_turn}
 
+-- which copies steps for a partner load
+abbrev pub copy_kind : PeerRule → Option CopyKind
+copy_kind ReadRecord = Some RecordCopy
+copy_kind LookAtPage = Some PageCopy
+copy_kind CheckBeat = Some BeatCopy
+copy_kind m = None
+
+abbrev kind_in : Option CopyMark → Option CopyKind
+kind_in None = None
+kind_in (Some mark) = Some mark.kind
+
+kind_is : (s : ScenarioPart) (st : State) (q : ℕ) (m : PeerRule) → kind_in (mark_of s st (ForPeer q m)) ≡ copy_kind m
+kind_is s st q AskActivation = refl
+kind_is s st q TakeFlags = refl
+kind_is s st q CloseArea = refl
+kind_is s st q ZeroMagic = refl
+kind_is s st q ClearOldBit = refl
+kind_is s st q (Prepare x) = refl
+kind_is s st q OpenArea = refl
+kind_is s st q SetEngagementBit = refl
+kind_is s st q ReadRecord = refl
+kind_is s st q StoreEcho = refl
+kind_is s st q StoreSecond = refl
+kind_is s st q ClearEngagementBit = refl
+kind_is s st q LookAtPage = refl
+kind_is s st q CheckBeat = refl
+kind_is s st q ClearDeactivationBit = refl
+kind_is s st q TellPartner = refl
+
+mark_kind : (s : ScenarioPart) (st : State) (q : ℕ) (m : PeerRule) (mark : CopyMark) → mark_of s st (ForPeer q m) ≡ Some mark → copy_kind m ≡ Some mark.kind
+mark_kind s st q m mark e = sym (kind_is s st q m) ∙ ap (λ (o : Option CopyMark). kind_in o) e
+
 -- acts: an end changes, and a partner isn't wanted any more or is wanted again
 pub record ActsLeave (P : Peer → Type 0) : Type 0 where
   pub linked : (p : Peer) (links : List End) → P p → P (record p { links = links })
@@ -39,7 +73,7 @@ pub record ActsLeave (P : Peer → Type 0) : Type 0 where
 pub record StepsLeave (N : Peer → PeerRule → Type 0) (P : Peer → Type 0) : Type 0 where
   pub linked : (p : Peer) (links : List End) (going : List Going) → IsSome p.contact → P p → P (record p { links = links; going = going })
   pub reasoned : (o : Option Reason) (p : Peer) → P p → P (with_reason o p)
-  pub ended : (kind : CopyKind) (p : Peer) (m : PeerRule) → N p m → P p → P (copy_ended kind p)
+  pub ended : (turn : ℕ) (kind : CopyKind) (p : Peer) (m : PeerRule) → copy_kind m ≡ Some kind → N p m → P p → P (copy_ended turn kind p)
   pub freed : (p : Peer) → is_left p.engage ≡ true → P p → P (area_off p).local
   pub steps : (y : Here) (p : Peer) (g : PeerGoing) (m : PeerRule) (w : ℕ) → peer_can y p m → N p m → P p → P (peer_effect y (record p { numbers = g }) m w).local
 
@@ -63,11 +97,11 @@ module _ (P : Peer → Type 0) (s : ScenarioPart) (q : ℕ) where
     acts_leave st (a ∷ more) h = acts_leave (after_act s st a) more (act_leaves st a h)
 
   module _ (N : Peer → PeerRule → Type 0) (z : StepsLeave N P) where
-    answers_leave : (y : Here) (mark : Option CopyMark) (p : Peer) (m : PeerRule) (a : Answer) → peer_can y p m → N p m → P p → P (peer_answered y mark p m a).local
-    answers_leave y None p m (Word w) can n h = z.steps y p p.numbers m w can n h
-    answers_leave y (Some mark) p m (Word w) can n h = z.steps y p _ m w can n h
-    answers_leave y None p m Failed can n h = h
-    answers_leave y (Some mark) p m Failed can n h = z.ended mark.kind p m n h
+    answers_leave : (y : Here) (mark : Option CopyMark) (p : Peer) (m : PeerRule) (a : Answer) → ((x : CopyMark) → mark ≡ Some x → copy_kind m ≡ Some x.kind) → peer_can y p m → N p m → P p → P (peer_answered y mark p m a).local
+    answers_leave y None p m (Word w) k can n h = z.steps y p p.numbers m w can n h
+    answers_leave y (Some mark) p m (Word w) k can n h = z.steps y p _ m w can n h
+    answers_leave y None p m Failed k can n h = h
+    answers_leave y (Some mark) p m Failed k can n h = z.ended y.turn mark.kind p m (k mark refl) n h
 
     read_leaves : (l b : Bool) (p : Peer) → is_left p.engage ≡ l → P p → P (if l && b then area_off p else same_peer p).local
     read_leaves true true p e h = z.freed p e h
@@ -86,7 +120,7 @@ module _ (P : Peer → Type 0) (s : ScenarioPart) (q : ℕ) where
     rule_leaves st (ForPeer k m) a can n h =
         let g = peer_answered (here_of s st k) (mark_of s st (ForPeer k m)) (peer_of st k) m a in
         at_peer P st.peers k (with_reason g.reason g.local) q
-        (λ e. z.reasoned g.reason g.local (answers_leave (here_of s st k) (mark_of s st (ForPeer k m)) (peer_of st k) m a can.1.1 (subst (λ (j : ℕ). N (peer_of st j) m) e (n m (ap (λ (j : ℕ). ForPeer j m) (sym e)))) (subst (λ (j : ℕ). P (peer_of st j)) e h))) h
+        (λ e. z.reasoned g.reason g.local (answers_leave (here_of s st k) (mark_of s st (ForPeer k m)) (peer_of st k) m a (mark_kind s st k m) can.1.1 (subst (λ (j : ℕ). N (peer_of st j) m) e (n m (ap (λ (j : ℕ). ForPeer j m) (sym e)))) (subst (λ (j : ℕ). P (peer_of st j)) e h))) h
     rule_leaves st (Own ReadEngaged) (Word w) can n h = at_each P (λ j p. (peer_read w j p).local) st.peers q (cold_peer Old) (read_leaves (is_left (peer_of st q).engage) (not (is_flagged w q)) (peer_of st q) refl h) (past st h)
     rule_leaves st (Own TakeDeactivation) (Word w) can n h = at_each P (λ j p. (deactivation_heard w j p).local) st.peers q (cold_peer Old) (heard_leaves (is_some (peer_of st q).engage.echo && is_flagged w q) w (peer_of st q) h) (past st h)
     rule_leaves st (Own ReadStamp) (Word w) can n h = h
@@ -95,6 +129,8 @@ module _ (P : Peer → Type 0) (s : ScenarioPart) (q : ℕ) where
     rule_leaves st (Own WriteStamp) (Word w) can n h = h
     rule_leaves st (Own StoreMask) (Word w) can n h = h
     rule_leaves st (Own TakeActivation) (Word w) can n h = h
+    rule_leaves st (Own StoreBeat) (Word w) can n h = h
+    rule_leaves st (Own StoreOffline) (Word w) can n h = h
     rule_leaves st (Own m) Failed can n h = h
 
     -- a turn's step, of which its rule is known
@@ -135,7 +171,7 @@ pub record Awaits (N : Peer → PeerRule → Type 0) (P : Peer → Type 0) (goal
   pub acts : ActsLeave P
   pub linked : (p : Peer) (links : List End) (going : List Going) → P p → P (record p { links = links; going = going })
   pub reasoned : (o : Option Reason) (p : Peer) → P p → P (with_reason o p)
-  pub ended : (kind : CopyKind) (p : Peer) → P p → P (copy_ended kind p)
+  pub ended : (turn : ℕ) (kind : CopyKind) (p : Peer) (m : PeerRule) → copy_kind m ≡ Some kind → P p → (m ≡ goal) ⊎ P (copy_ended turn kind p)
   pub freed : (p : Peer) → is_left p.engage ≡ true → P p → ⊥
   pub steps : (y : Here) (p : Peer) (g : PeerGoing) (m : PeerRule) (w : ℕ) → peer_can y p m → N p m → P p → (m ≡ goal) ⊎ P (peer_effect y (record p { numbers = g }) m w).local
 
@@ -156,6 +192,10 @@ module _ (N : Peer → PeerRule → Type 0) (P : Peer → Type 0) (goal : PeerRu
     or_done m r f (inl e) = inl (f e)
     or_done m r f (inr h) = inr h
 
+    or_ended : (turn : ℕ) (kind : CopyKind) (p : Peer) (m : PeerRule) → copy_kind m ≡ Some kind → (m ≡ goal → Done) × N p m → Or p → Or (copy_ended turn kind p)
+    or_ended turn kind p m k n (inl d) = inl d
+    or_ended turn kind p m k n (inr h) = or_done m (copy_ended turn kind p) n.0 (z.ended turn kind p m k h)
+
     or_steps : (y : Here) (p : Peer) (g : PeerGoing) (m : PeerRule) (w : ℕ) → peer_can y p m → (m ≡ goal → Done) × N p m → Or p → Or (peer_effect y (record p { numbers = g }) m w).local
     or_steps y p g m w can n (inl d) = inl d
     or_steps y p g m w can n (inr h) = or_done m (peer_effect y (record p { numbers = g }) m w).local n.0 (z.steps y p g m w can n.1 h)
@@ -164,7 +204,7 @@ module _ (N : Peer → PeerRule → Type 0) (P : Peer → Type 0) (goal : PeerRu
     or_leave = record {
       linked = λ p links going some h. or_map p (record p { links = links; going = going }) (z.linked p links going) h;
       reasoned = λ o p h. or_map p (with_reason o p) (z.reasoned o p) h;
-      ended = λ kind p m n h. or_map p (copy_ended kind p) (z.ended kind p) h;
+      ended = or_ended;
       freed = or_freed;
       steps = or_steps;
     }

@@ -96,27 +96,30 @@ module _ (s : ScenarioPart) (q : ℕ) (x : Spot s.part s.count q) where
   fits e boot st up met j = subst (λ (es : List Errand). Fits (plan_of s) e es) (at_place boot st up met) j
 
   signals : (c : ℕ) → c < CHANNELS → Joins (errands.Signal c)
-  signals zero h = record { front = errands.Look ∷ errands.Flags ∷ []; back = errands.Signal 1 ∷ errands.Signal 2 ∷ errands.Signal 3 ∷ errands.Counters 0 ∷ errands.Counters 1 ∷ errands.Counters 2 ∷ errands.Counters 3 ∷ errands.Bulk ∷ errands.Leave ∷ []; is = refl; low = omega arith }
-  signals (suc zero) h = record { front = errands.Look ∷ errands.Flags ∷ errands.Signal 0 ∷ []; back = errands.Signal 2 ∷ errands.Signal 3 ∷ errands.Counters 0 ∷ errands.Counters 1 ∷ errands.Counters 2 ∷ errands.Counters 3 ∷ errands.Bulk ∷ errands.Leave ∷ []; is = refl; low = omega arith }
-  signals (suc (suc zero)) h = record { front = errands.Look ∷ errands.Flags ∷ errands.Signal 0 ∷ errands.Signal 1 ∷ []; back = errands.Signal 3 ∷ errands.Counters 0 ∷ errands.Counters 1 ∷ errands.Counters 2 ∷ errands.Counters 3 ∷ errands.Bulk ∷ errands.Leave ∷ []; is = refl; low = omega arith }
-  signals (suc (suc (suc zero))) h = record { front = errands.Look ∷ errands.Flags ∷ errands.Signal 0 ∷ errands.Signal 1 ∷ errands.Signal 2 ∷ []; back = errands.Counters 0 ∷ errands.Counters 1 ∷ errands.Counters 2 ∷ errands.Counters 3 ∷ errands.Bulk ∷ errands.Leave ∷ []; is = refl; low = omega arith }
+  signals zero h = record { front = errands.Look ∷ errands.Flags ∷ errands.Check ∷ []; back = errands.Signal 1 ∷ errands.Signal 2 ∷ errands.Signal 3 ∷ errands.Counters 0 ∷ errands.Counters 1 ∷ errands.Counters 2 ∷ errands.Counters 3 ∷ errands.Bulk ∷ errands.Leave ∷ []; is = refl; low = omega arith }
+  signals (suc zero) h = record { front = errands.Look ∷ errands.Flags ∷ errands.Check ∷ errands.Signal 0 ∷ []; back = errands.Signal 2 ∷ errands.Signal 3 ∷ errands.Counters 0 ∷ errands.Counters 1 ∷ errands.Counters 2 ∷ errands.Counters 3 ∷ errands.Bulk ∷ errands.Leave ∷ []; is = refl; low = omega arith }
+  signals (suc (suc zero)) h = record { front = errands.Look ∷ errands.Flags ∷ errands.Check ∷ errands.Signal 0 ∷ errands.Signal 1 ∷ []; back = errands.Signal 3 ∷ errands.Counters 0 ∷ errands.Counters 1 ∷ errands.Counters 2 ∷ errands.Counters 3 ∷ errands.Bulk ∷ errands.Leave ∷ []; is = refl; low = omega arith }
+  signals (suc (suc (suc zero))) h = record { front = errands.Look ∷ errands.Flags ∷ errands.Check ∷ errands.Signal 0 ∷ errands.Signal 1 ∷ errands.Signal 2 ∷ []; back = errands.Counters 0 ∷ errands.Counters 1 ∷ errands.Counters 2 ∷ errands.Counters 3 ∷ errands.Bulk ∷ errands.Leave ∷ []; is = refl; low = omega arith }
   signals (suc (suc (suc (suc c)))) h = absurd (omega (arith, h))
 
   pub fits_signal : (c boot : ℕ) (st : State) → c < CHANNELS → IsUp boot st → IsMet q st → Fits (plan_of s) (errands.Signal c) ((plan_of s).errands x.number st)
   fits_signal c boot st low up met = fits (errands.Signal c) boot st up met (signals c low)
 
   counts : (c : ℕ) → c < CHANNELS → Joins (errands.Counters c)
-  counts zero h = record { front = errands.Look ∷ errands.Flags ∷ errands.Signal 0 ∷ errands.Signal 1 ∷ errands.Signal 2 ∷ errands.Signal 3 ∷ []; back = errands.Counters 1 ∷ errands.Counters 2 ∷ errands.Counters 3 ∷ errands.Bulk ∷ errands.Leave ∷ []; is = refl; low = omega arith }
-  counts (suc zero) h = record { front = errands.Look ∷ errands.Flags ∷ errands.Signal 0 ∷ errands.Signal 1 ∷ errands.Signal 2 ∷ errands.Signal 3 ∷ errands.Counters 0 ∷ []; back = errands.Counters 2 ∷ errands.Counters 3 ∷ errands.Bulk ∷ errands.Leave ∷ []; is = refl; low = omega arith }
-  counts (suc (suc zero)) h = record { front = errands.Look ∷ errands.Flags ∷ errands.Signal 0 ∷ errands.Signal 1 ∷ errands.Signal 2 ∷ errands.Signal 3 ∷ errands.Counters 0 ∷ errands.Counters 1 ∷ []; back = errands.Counters 3 ∷ errands.Bulk ∷ errands.Leave ∷ []; is = refl; low = omega arith }
-  counts (suc (suc (suc zero))) h = record { front = errands.Look ∷ errands.Flags ∷ errands.Signal 0 ∷ errands.Signal 1 ∷ errands.Signal 2 ∷ errands.Signal 3 ∷ errands.Counters 0 ∷ errands.Counters 1 ∷ errands.Counters 2 ∷ []; back = errands.Bulk ∷ errands.Leave ∷ []; is = refl; low = omega arith }
+  counts zero h = record { front = errands.Look ∷ errands.Flags ∷ errands.Check ∷ errands.Signal 0 ∷ errands.Signal 1 ∷ errands.Signal 2 ∷ errands.Signal 3 ∷ []; back = errands.Counters 1 ∷ errands.Counters 2 ∷ errands.Counters 3 ∷ errands.Bulk ∷ errands.Leave ∷ []; is = refl; low = omega arith }
+  counts (suc zero) h = record { front = errands.Look ∷ errands.Flags ∷ errands.Check ∷ errands.Signal 0 ∷ errands.Signal 1 ∷ errands.Signal 2 ∷ errands.Signal 3 ∷ errands.Counters 0 ∷ []; back = errands.Counters 2 ∷ errands.Counters 3 ∷ errands.Bulk ∷ errands.Leave ∷ []; is = refl; low = omega arith }
+  counts (suc (suc zero)) h = record { front = errands.Look ∷ errands.Flags ∷ errands.Check ∷ errands.Signal 0 ∷ errands.Signal 1 ∷ errands.Signal 2 ∷ errands.Signal 3 ∷ errands.Counters 0 ∷ errands.Counters 1 ∷ []; back = errands.Counters 3 ∷ errands.Bulk ∷ errands.Leave ∷ []; is = refl; low = omega arith }
+  counts (suc (suc (suc zero))) h = record { front = errands.Look ∷ errands.Flags ∷ errands.Check ∷ errands.Signal 0 ∷ errands.Signal 1 ∷ errands.Signal 2 ∷ errands.Signal 3 ∷ errands.Counters 0 ∷ errands.Counters 1 ∷ errands.Counters 2 ∷ []; back = errands.Bulk ∷ errands.Leave ∷ []; is = refl; low = omega arith }
   counts (suc (suc (suc (suc c)))) h = absurd (omega (arith, h))
 
   pub fits_counters : (c boot : ℕ) (st : State) → c < CHANNELS → IsUp boot st → IsMet q st → Fits (plan_of s) (errands.Counters c) ((plan_of s).errands x.number st)
   fits_counters c boot st low up met = fits (errands.Counters c) boot st up met (counts c low)
 
   pub fits_flags : (boot : ℕ) (st : State) → IsUp boot st → IsMet q st → Fits (plan_of s) errands.Flags ((plan_of s).errands x.number st)
-  fits_flags boot st up met = fits errands.Flags boot st up met (record { front = errands.Look ∷ []; back = errands.Signal 0 ∷ errands.Signal 1 ∷ errands.Signal 2 ∷ errands.Signal 3 ∷ errands.Counters 0 ∷ errands.Counters 1 ∷ errands.Counters 2 ∷ errands.Counters 3 ∷ errands.Bulk ∷ errands.Leave ∷ []; is = refl; low = omega arith })
+  fits_flags boot st up met = fits errands.Flags boot st up met (record { front = errands.Look ∷ []; back = errands.Check ∷ errands.Signal 0 ∷ errands.Signal 1 ∷ errands.Signal 2 ∷ errands.Signal 3 ∷ errands.Counters 0 ∷ errands.Counters 1 ∷ errands.Counters 2 ∷ errands.Counters 3 ∷ errands.Bulk ∷ errands.Leave ∷ []; is = refl; low = omega arith })
+
+  pub fits_check : (boot : ℕ) (st : State) → IsUp boot st → IsMet q st → Fits (plan_of s) errands.Check ((plan_of s).errands x.number st)
+  fits_check boot st up met = fits errands.Check boot st up met (record { front = errands.Look ∷ errands.Flags ∷ []; back = errands.Signal 0 ∷ errands.Signal 1 ∷ errands.Signal 2 ∷ errands.Signal 3 ∷ errands.Counters 0 ∷ errands.Counters 1 ∷ errands.Counters 2 ∷ errands.Counters 3 ∷ errands.Bulk ∷ errands.Leave ∷ []; is = refl; low = omega arith })
 
 -- the same at the own place
 pub asks_own : (s : ScenarioPart) (e : Errand) (used boot : ℕ) (st : State) → IsUp boot st → (plan_of s).ask 0 e used st ≡ asked (ask_own s e used st)
@@ -128,14 +131,17 @@ own_place s boot st up = sym (ap (λ (l : Life). errands_of (agenda_by l OwnPlac
 pub own_fits : (s : ScenarioPart) (e : Errand) (boot : ℕ) (st : State) → IsUp boot st → Fits (plan_of s) e (errands_of agendas.Own) → Fits (plan_of s) e ((plan_of s).errands 0 st)
 own_fits s e boot st up f = subst (λ (es : List Errand). Fits (plan_of s) e es) (own_place s boot st up) f
 
+pub fits_beat : (s : ScenarioPart) → Fits (plan_of s) errands.Beat (errands_of agendas.Own)
+fits_beat s = record { front = []; back = errands.Mask ∷ errands.Activations ∷ errands.Deactivations ∷ errands.Engagements ∷ errands.Script ∷ []; is = refl; low = omega arith }
+
 pub fits_activations : (s : ScenarioPart) → Fits (plan_of s) errands.Activations (errands_of agendas.Own)
-fits_activations s = record { front = errands.Mask ∷ []; back = errands.Deactivations ∷ errands.Engagements ∷ errands.Script ∷ []; is = refl; low = omega arith }
+fits_activations s = record { front = errands.Beat ∷ errands.Mask ∷ []; back = errands.Deactivations ∷ errands.Engagements ∷ errands.Script ∷ []; is = refl; low = omega arith }
 
 pub fits_deactivations : (s : ScenarioPart) → Fits (plan_of s) errands.Deactivations (errands_of agendas.Own)
-fits_deactivations s = record { front = errands.Mask ∷ errands.Activations ∷ []; back = errands.Engagements ∷ errands.Script ∷ []; is = refl; low = omega arith }
+fits_deactivations s = record { front = errands.Beat ∷ errands.Mask ∷ errands.Activations ∷ []; back = errands.Engagements ∷ errands.Script ∷ []; is = refl; low = omega arith }
 
 pub fits_engagements : (s : ScenarioPart) → Fits (plan_of s) errands.Engagements (errands_of agendas.Own)
-fits_engagements s = record { front = errands.Mask ∷ errands.Activations ∷ errands.Deactivations ∷ []; back = errands.Script ∷ []; is = refl; low = omega arith }
+fits_engagements s = record { front = errands.Beat ∷ errands.Mask ∷ errands.Activations ∷ errands.Deactivations ∷ []; back = errands.Script ∷ []; is = refl; low = omega arith }
 
 pub fits_script : (s : ScenarioPart) → Fits (plan_of s) errands.Script (errands_of agendas.Own)
-fits_script s = record { front = errands.Mask ∷ errands.Activations ∷ errands.Deactivations ∷ errands.Engagements ∷ []; back = []; is = refl; low = omega arith }
+fits_script s = record { front = errands.Beat ∷ errands.Mask ∷ errands.Activations ∷ errands.Deactivations ∷ errands.Engagements ∷ []; back = []; is = refl; low = omega arith }

@@ -24,14 +24,14 @@ use Rattle.xp_protocol.specs.declared.rule.RingRule.TheVariants.{ReadGet, WriteE
 use Rattle.xp_protocol.specs.declared.rule.PullRule.TheVariants.{ReadCounters, ReadEntry}
 use Rattle.xp_protocol.specs.declared.rule.LinkRule.{LinkRule}
 use Rattle.xp_protocol.specs.declared.rule.LinkRule.TheVariants.{Ring, Pull, Acknowledge, SetFlag, ZeroGet, ZeroPut, StoreArgument}
-use Rattle.xp_protocol.specs.declared.rule.PeerRule.TheVariants.{TakeFlags, CloseArea, ZeroMagic, ClearOldBit, ReadRecord, StoreEcho, StoreSecond, ClearEngagementBit, LookAtPage, ClearDeactivationBit, TellPartner}
+use Rattle.xp_protocol.specs.declared.rule.PeerRule.TheVariants.{TakeFlags, CloseArea, ZeroMagic, ClearOldBit, ReadRecord, StoreEcho, StoreSecond, ClearEngagementBit, LookAtPage, CheckBeat, ClearDeactivationBit, TellPartner}
 use Rattle.xp_protocol.specs.declared.rule.OwnRule.{OwnRule}
-use Rattle.xp_protocol.specs.declared.rule.OwnRule.TheVariants.{ReadStamp, WriteStamp}
+use Rattle.xp_protocol.specs.declared.rule.OwnRule.TheVariants.{ReadStamp, WriteStamp, StoreOffline}
 use Rattle.xp_protocol.specs.declared.rule.Rule.{Rule}
 use Rattle.xp_protocol.specs.declared.rule.Rule.TheVariants.{Link, Peer as ForPeer, Own}
 use Rattle.xp_protocol.specs.Acts.{current, EndName, named_end}
 use Rattle.xp_protocol.specs.State.{State, Life, Booting, Up, Halted, Area, Old, Off, Ready, Leaving, Engage, Peer, End, end_of, peer_of, is_connected}
-use Rattle.xp_protocol.specs.Rules.{here_of}
+use Rattle.xp_protocol.specs.Rules.{here_of, offline_asked}
 use Rattle.xp_protocol.specs.Peering.{is_off, is_prepared, copies_go_on, is_good}
 use Rattle.xp_plan.specs.declared.errand.Errand.{Errand}
 use Rattle.xp_plan.specs.declared.errand.Errand.TheVariants as errands
@@ -164,15 +164,20 @@ module _ (place : Place) (e : Errand) (turns : ℕ) (s : ScenarioPart) (st : Sta
   abbrev Known : Option Rule → Type 0
   Known o = All (Meant place e turns st) o
 
-  named : (used : ℕ) (x : Command) (o : Option EndName) → Known (command_at st used x o)
-  named used x None = tt
+  -- one of the partition
+  owns : (b : Bool) (m : OwnRule) → Known (step_if b (Own m))
+  owns true m = tt
+  owns false m = tt
+
+  named : (used : ℕ) (x : Command) (o : Option EndName) → Known (command_at s st used x o)
+  named used x None = owns (is_some (offline_asked s st)) StoreOffline
   named used x (Some n) = links place e turns st n.partner n.channel (command_step used (end_of st n.partner n.channel) x) (commands_by place e turns st n.partner n.channel used x)
 
-  command : (used : ℕ) (o : Option Command) → Known (command_asked st used o)
+  command : (used : ℕ) (o : Option Command) → Known (command_asked s st used o)
   command used None = tt
   command used (Some x) = named used x (named_end x)
 
-  script_by : (b : Bool) (used : ℕ) → Known (if b then command_asked st used (current s st) else None)
+  script_by : (b : Bool) (used : ℕ) → Known (if b then command_asked s st used (current s st) else None)
   script_by true used = command used (current s st)
   script_by false used = tt
 
@@ -231,6 +236,10 @@ module _ (place : Place) (e : Errand) (turns : ℕ) (s : ScenarioPart) (st : Sta
   takes true q = tt
   takes false q = tt
 
+  checks : (b : Bool) (q : ℕ) → Known (for_peer q (step_if b CheckBeat))
+  checks true q = tt
+  checks false q = tt
+
   leaves_bit : (a b d : Bool) (q : ℕ) → Known (for_peer q (if a then (if b then step_if d ClearEngagementBit else Some TellPartner) else None))
   leaves_bit true true true q = tt
   leaves_bit true true false q = tt
@@ -247,11 +256,6 @@ module _ (place : Place) (e : Errand) (turns : ℕ) (s : ScenarioPart) (st : Sta
   leaves Ready p q = closes (is_some p.engage.reason) q
   leaves Leaving p q = leaves_bit p.engage.bit p.engage.told (not (copies_go_on p)) q
 
-  -- one of the partition
-  owns : (b : Bool) (m : OwnRule) → Known (step_if b (Own m))
-  owns true m = tt
-  owns false m = tt
-
 looks_by : (b : Bool) (q used : ℕ) (st : State) → (nat_eq used 0 || nat_lt 0 (length (peer_of st q).paging)) ≡ b → All (Meant (PartnerPlace q) errands.Look used st) (for_peer q (step_if b LookAtPage))
 looks_by true q used st i = (refl, refl, i)
 looks_by false q used st i = tt
@@ -263,11 +267,13 @@ partner s q errands.Engage used st = engages_by (PartnerPlace q) errands.Engage 
 partner s q errands.Answer used st = answers (PartnerPlace q) errands.Answer used s st (is_open_to (peer_of st q).engage) q
 partner s q errands.Record used st = records (PartnerPlace q) errands.Record used s st (may_read (peer_of st q)) (is_some (peer_of st q).engage.reading || nat_lt used RECORD_WORDS) q refl
 partner s q errands.Flags used st = takes (PartnerPlace q) errands.Flags used s st (is_joined (peer_of st q)) q
+partner s q errands.Check used st = checks (PartnerPlace q) errands.Check used s st _ q
 partner s q (errands.Signal c) used st = links (PartnerPlace q) (errands.Signal c) used st q c (signal_at used (end_of st q c)) (meets (PartnerPlace q) (errands.Signal c) used st q c (is_some (end_of st q c).shake.meet) used (end_of st q c))
 partner s q (errands.Counters c) used st = let y = end_of st q c in links (PartnerPlace q) (errands.Counters c) used st q c _ (pulls_by (PartnerPlace q) (errands.Counters c) used st q c (is_connected y) (is_some y.sides.pull.counters || (nat_lt used 2 && (y.sides.pull.owed || is_polling y.sides.pull))) refl)
 partner s q errands.Bulk used st = script (PartnerPlace q) errands.Bulk used s st used
 partner s q errands.Leave used st = leaves (PartnerPlace q) errands.Leave used s st (peer_of st q).engage.area (peer_of st q) q
 partner s q errands.Boot used st = tt
+partner s q errands.Beat used st = tt
 partner s q errands.Mask used st = tt
 partner s q errands.Activations used st = tt
 partner s q errands.Deactivations used st = tt
@@ -275,6 +281,7 @@ partner s q errands.Engagements used st = tt
 partner s q errands.Script used st = tt
 
 own : (s : ScenarioPart) (e : Errand) (used : ℕ) (st : State) → All (Meant OwnPlace e used st) (ask_own s e used st)
+own s errands.Beat used st = owns OwnPlace errands.Beat used s st _ _
 own s errands.Mask used st = owns OwnPlace errands.Mask used s st _ _
 own s errands.Activations used st = tt
 own s errands.Deactivations used st = tt
@@ -287,6 +294,7 @@ own s errands.Engage used st = tt
 own s errands.Answer used st = tt
 own s errands.Record used st = tt
 own s errands.Flags used st = tt
+own s errands.Check used st = tt
 own s (errands.Signal c) used st = tt
 own s (errands.Counters c) used st = tt
 own s errands.Bulk used st = tt
@@ -325,6 +333,7 @@ module _ (place : Place) (e : Errand) (turns : ℕ) (st : State) where
 
 booting : (s : ScenarioPart) (place : Place) (e : Errand) (used : ℕ) (st : State) → All (Meant place e used st) (ask_booting s e st)
 booting s place errands.Boot used st = reads place errands.Boot used st s.part (is_some st.boot.read)
+booting s place errands.Beat used st = tt
 booting s place errands.Mask used st = tt
 booting s place errands.Activations used st = tt
 booting s place errands.Deactivations used st = tt
@@ -336,6 +345,7 @@ booting s place errands.Engage used st = tt
 booting s place errands.Answer used st = tt
 booting s place errands.Record used st = tt
 booting s place errands.Flags used st = tt
+booting s place errands.Check used st = tt
 booting s place (errands.Signal c) used st = tt
 booting s place (errands.Counters c) used st = tt
 booting s place errands.Bulk used st = tt

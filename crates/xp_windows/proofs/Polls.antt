@@ -22,11 +22,12 @@ use Rattle.xp_protocol.specs.declared.rule.LinkRule.TheVariants.{Ring, Pull, Ack
 use Rattle.xp_protocol.specs.declared.rule.PeerRule.{PeerRule}
 use Rattle.xp_protocol.specs.declared.rule.PeerRule.TheVariants.{ClearDeactivationBit}
 use Rattle.xp_protocol.specs.declared.rule.OwnRule.{OwnRule}
+use Rattle.xp_protocol.specs.declared.rule.OwnRule.TheVariants.{StoreOffline}
 use Rattle.xp_protocol.specs.declared.rule.Rule.{Rule}
 use Rattle.xp_protocol.specs.declared.rule.Rule.TheVariants.{Link, Peer as ForPeer, Own}
 use Rattle.xp_protocol.specs.Acts.{current, EndName, named_end}
 use Rattle.xp_protocol.specs.State.{State, Life, Engage, End, end_of, peer_of, is_connected}
-use Rattle.xp_protocol.specs.Rules.{here_of}
+use Rattle.xp_protocol.specs.Rules.{here_of, offline_asked}
 use Rattle.xp_protocol.specs.Peering.{is_off, is_prepared}
 use Rattle.xp_plan.specs.declared.errand.Errand.{Errand}
 use Rattle.xp_plan.specs.declared.errand.Errand.TheVariants as errands
@@ -185,18 +186,18 @@ step_never used e (commands.Idle turns) h = cc
 step_never used e commands.Offline h = cc
 step_never used e commands.Online h = cc
 
-named_never : (st : State) (used : ℕ) (x : Command) (o : Option EndName) (q c : ℕ) → command_at st used x o ≡ Some (Load q c) → ⊥
-named_never st used x None q c h = cc
-named_never st used x (Some n) q c h = let g = given st n.partner n.channel (command_step used (end_of st n.partner n.channel) x) q c h in step_never used (end_of st n.partner n.channel) x g.is
+named_never : (s : ScenarioPart) (st : State) (used : ℕ) (x : Command) (o : Option EndName) (q c : ℕ) → command_at s st used x o ≡ Some (Load q c) → ⊥
+named_never s st used x None q c h = own_never (is_some (offline_asked s st)) StoreOffline q c h
+named_never s st used x (Some n) q c h = let g = given st n.partner n.channel (command_step used (end_of st n.partner n.channel) x) q c h in step_never used (end_of st n.partner n.channel) x g.is
 
-command_never : (st : State) (used : ℕ) (o : Option Command) (q c : ℕ) → command_asked st used o ≡ Some (Load q c) → ⊥
-command_never st used None q c h = cc
-command_never st used (Some x) q c h = named_never st used x (named_end x) q c h
+command_never : (s : ScenarioPart) (st : State) (used : ℕ) (o : Option Command) (q c : ℕ) → command_asked s st used o ≡ Some (Load q c) → ⊥
+command_never s st used None q c h = cc
+command_never s st used (Some x) q c h = named_never s st used x (named_end x) q c h
 
 script_never : (s : ScenarioPart) (st : State) (used q c : ℕ) → script_asked s st used ≡ Some (Load q c) → ⊥
 script_never s st used q c h = by st.script.doing h where
-  by : (b : Bool) → (if b then command_asked st used (current s st) else None) ≡ Some (Load q c) → ⊥
-  by true i = command_never st used (current s st) q c i
+  by : (b : Bool) → (if b then command_asked s st used (current s st) else None) ≡ Some (Load q c) → ⊥
+  by true i = command_never s st used (current s st) q c i
   by false i = cc
 
 -- the counters of a channel
@@ -226,11 +227,13 @@ at_partner s st k errands.Engage used q c h = absurd (peer_never k _ q c h)
 at_partner s st k errands.Answer used q c h = absurd (peer_never k _ q c h)
 at_partner s st k errands.Record used q c h = absurd (peer_never k _ q c h)
 at_partner s st k errands.Flags used q c h = absurd (peer_never k _ q c h)
+at_partner s st k errands.Check used q c h = absurd (peer_never k _ q c h)
 at_partner s st k (errands.Signal d) used q c h = absurd (let g = given st k d (signal_at used (end_of st k d)) q c h in signal_never used (end_of st k d) g.is)
 at_partner s st k (errands.Counters d) used q c h = counters_asked st k d used q c h
 at_partner s st k errands.Bulk used q c h = absurd (script_never s st used q c h)
 at_partner s st k errands.Leave used q c h = absurd (peer_never k _ q c h)
 at_partner s st k errands.Boot used q c h = absurd (cc)
+at_partner s st k errands.Beat used q c h = absurd (cc)
 at_partner s st k errands.Mask used q c h = absurd (cc)
 at_partner s st k errands.Activations used q c h = absurd (cc)
 at_partner s st k errands.Deactivations used q c h = absurd (cc)
@@ -238,6 +241,7 @@ at_partner s st k errands.Engagements used q c h = absurd (cc)
 at_partner s st k errands.Script used q c h = absurd (cc)
 
 at_own : (s : ScenarioPart) (st : State) (e : Errand) (used q c : ℕ) → ask_own s e used st ≡ Some (Load q c) → ⊥
+at_own s st errands.Beat used q c h = own_never _ _ q c h
 at_own s st errands.Mask used q c h = own_never _ _ q c h
 at_own s st errands.Activations used q c h = cc
 at_own s st errands.Deactivations used q c h = cc
@@ -250,6 +254,7 @@ at_own s st errands.Engage used q c h = cc
 at_own s st errands.Answer used q c h = cc
 at_own s st errands.Record used q c h = cc
 at_own s st errands.Flags used q c h = cc
+at_own s st errands.Check used q c h = cc
 at_own s st (errands.Signal d) used q c h = cc
 at_own s st (errands.Counters d) used q c h = cc
 at_own s st errands.Bulk used q c h = cc

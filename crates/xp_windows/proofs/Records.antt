@@ -19,7 +19,7 @@ use Rattle.xp_protocol.specs.declared.contact.Contact.{Contact}
 use Rattle.xp_protocol.specs.declared.contact.PartnerState.{PartnerState}
 use Rattle.xp_protocol.specs.declared.contact.PartnerState.TheVariants.{Activating}
 use Rattle.xp_protocol.specs.declared.rule.PeerRule.{PeerRule}
-use Rattle.xp_protocol.specs.declared.rule.PeerRule.TheVariants.{AskActivation, TakeFlags, CloseArea, ZeroMagic, ClearOldBit, Prepare, OpenArea, SetEngagementBit, ReadRecord, StoreEcho, StoreSecond, ClearEngagementBit, LookAtPage, ClearDeactivationBit, TellPartner}
+use Rattle.xp_protocol.specs.declared.rule.PeerRule.TheVariants.{AskActivation, TakeFlags, CloseArea, ZeroMagic, ClearOldBit, Prepare, OpenArea, SetEngagementBit, ReadRecord, StoreEcho, StoreSecond, ClearEngagementBit, LookAtPage, CheckBeat, ClearDeactivationBit, TellPartner}
 use Rattle.xp_protocol.specs.declared.rule.Rule.{Rule}
 use Rattle.xp_protocol.specs.declared.rule.Rule.TheVariants.{Peer as ForPeer}
 use Rattle.xp_protocol.specs.Effects.{Effect, Note}
@@ -66,9 +66,9 @@ on_loaded n x y false h i = i
 over : (n : ℕ) (p : Peer) → p.engage.reading ≡ None → p.engage.back_off ≡ false → Loaded n p
 over n p e b = inl (e, λ l. b)
 
-contact_loaded : (n stamp : ℕ) (b : Bool) (p : Peer) → p.engage.reading ≡ None → p.engage.back_off ≡ false → Loaded n (if b then contact_made stamp p else same_peer p).local
-contact_loaded n stamp true p e b = inl (e, λ l. b)
-contact_loaded n stamp false p e b = inl (e, λ l. b)
+contact_loaded : (n turn stamp : ℕ) (b : Bool) (p : Peer) → p.engage.reading ≡ None → p.engage.back_off ≡ false → Loaded n (if b then contact_made turn stamp p else same_peer p).local
+contact_loaded n turn stamp true p e b = inl (e, λ l. b)
+contact_loaded n turn stamp false p e b = inl (e, λ l. b)
 
 session_loaded : (b : Bool) (p : Peer) (r : Reading) (w : ℕ) (rest : Effect Peer (ℕ → List Note)) → nat_eq r.done 1 ≡ b → p.engage.back_off ≡ false → Loaded r.done rest.local → Loaded r.done (if b then same_peer (record p { engage = record p.engage { read = Some w; reading = Some (record r { done = 2 }) } }) else rest).local
 session_loaded true p r w rest e b h = inr (record { reading = record r { done = 2 }; is = refl; done = (let d : r.done ≡ 1 = grind (arith, nat_tests) in omega (arith, d)); back = b })
@@ -81,8 +81,8 @@ echo_loaded false p r w rest e b h = h
 place_loaded : (y : Here) (p : Peer) (r : Reading) (w : ℕ) → p.engage.back_off ≡ false → Loaded r.done (place_read y.part p r w).local
 place_loaded y p r w b = on_loaded r.done _ _ (is_wrong y.part r.done w) (over r.done (record p { engage = record p.engage { reading = None } }) refl b) (inr (record { reading = record r { done = r.done + 1 }; is = refl; done = refl; back = b }))
 
-last_loaded : (y : Here) (p : Peer) (r : Reading) → p.engage.back_off ≡ false → Loaded r.done (last_read y.stamp p r).local
-last_loaded y p r b = on_loaded r.done _ _ (has_shown y.stamp p.engage r) (contact_loaded r.done y.stamp (p.engage.second && (true && not (is_some p.contact))) (record p { engage = record p.engage { shown = true; reading = None } }) refl b) (over r.done (record p { engage = record p.engage { reading = None } }) refl b)
+last_loaded : (y : Here) (p : Peer) (r : Reading) → p.engage.back_off ≡ false → Loaded r.done (last_read y.turn y.stamp p r).local
+last_loaded y p r b = on_loaded r.done _ _ (has_shown y.stamp p.engage r) (contact_loaded r.done y.turn y.stamp (p.engage.second && (true && not (is_some p.contact))) (record p { engage = record p.engage { shown = true; reading = None } }) refl b) (over r.done (record p { engage = record p.engage { reading = None } }) refl b)
 
 word_loaded : (y : Here) (p : Peer) (o : Option Reading) (w : ℕ) → p.engage.reading ≡ o → p.engage.back_off ≡ false → Loaded (read_place o) (record_read y p o w).local
 word_loaded y p None w i b =
@@ -90,7 +90,7 @@ word_loaded y p None w i b =
     (on_loaded 0 _ _ (is_magic w) (inr (record { reading = record { done = 1; after_echo = is_some p.engage.echo; magic = w; echo = 0 }; is = refl; done = refl; back = b })) (over 0 p i b))
 word_loaded y p (Some r) w i b =
     session_loaded (nat_eq r.done 1) p r w _ refl b (echo_loaded (nat_eq r.done 2) p r w _ refl b
-    (on_loaded r.done (last_read y.stamp p r) (place_read y.part p r w) (nat_eq r.done 7) (last_loaded y p r b) (place_loaded y p r w b)))
+    (on_loaded r.done (last_read y.turn y.stamp p r) (place_read y.part p r w) (nat_eq r.done 7) (last_loaded y p r b) (place_loaded y p r w b)))
 
 read_loaded : (s : ScenarioPart) (st : State) (q : ℕ) (a : Answer) → (peer_of st q).engage.back_off ≡ false → let f = peer_answered (here_of s st q) (mark_of s st (ForPeer q ReadRecord)) (peer_of st q) ReadRecord a in Loaded (read_place (peer_of st q).engage.reading) (with_reason f.reason f.local)
 read_loaded s st q (Word w) b = given (record_read (here_of s st q) (peer_numbered (mark_of s st (ForPeer q ReadRecord)) (peer_of st q)) (peer_of st q).engage.reading w) (word_loaded (here_of s st q) (peer_numbered (mark_of s st (ForPeer q ReadRecord)) (peer_of st q)) (peer_of st q).engage.reading w refl b) where
@@ -122,9 +122,9 @@ left_not Off bit e f = cc
 left_not Old bit e f = absurd (cc)
 left_not Leaving bit e f = absurd (cc)
 
-contact_steady : (b : Bool) (stamp : ℕ) (p : Peer) → Steady p → Steady (if b then contact_made stamp p else same_peer p).local
-contact_steady true stamp p h = h
-contact_steady false stamp p h = h
+contact_steady : (b : Bool) (turn stamp : ℕ) (p : Peer) → Steady p → Steady (if b then contact_made turn stamp p else same_peer p).local
+contact_steady true turn stamp p h = h
+contact_steady false turn stamp p h = h
 
 steady_steps : (y : Here) (p : Peer) (g : PeerGoing) (m : PeerRule) (w : ℕ) → peer_can y p m → Unreasoned p m → Steady p → (m ≡ ReadRecord) ⊎ Steady (peer_effect y (record p { numbers = g }) m w).local
 steady_steps y p g AskActivation w can n h = inr h
@@ -137,9 +137,10 @@ steady_steps y p g OpenArea w can n h = absurd (off_not p.engage.area h.0 can.0)
 steady_steps y p g SetEngagementBit w can n h = inr (h.0, refl)
 steady_steps y p g ReadRecord w can n h = inl refl
 steady_steps y p g StoreEcho w can n h = inr (h.0, refl)
-steady_steps y p g StoreSecond w can n h = inr (contact_steady (true && (p.engage.shown && not (is_some p.contact))) y.stamp (record p { numbers = g; engage = record p.engage { second = true } }) h)
+steady_steps y p g StoreSecond w can n h = inr (contact_steady (true && (p.engage.shown && not (is_some p.contact))) y.turn y.stamp (record p { numbers = g; engage = record p.engage { second = true } }) h)
 steady_steps y p g ClearEngagementBit w can n h = inr (h.0, refl)
 steady_steps y p g LookAtPage w can n h = inr (cond_peer Steady _ _ _ h h)
+steady_steps y p g CheckBeat w can n h = inr h
 steady_steps y p g ClearDeactivationBit w can n h = absurd (off_not p.engage.area h.0 can)
 steady_steps y p g TellPartner w can n h = absurd (leaving_not p.engage.area h.0 can.0)
 
@@ -148,7 +149,7 @@ steady_awaits = record {
   acts = record { linked = λ p links h. h; unwanted = λ p h. h; wanted = λ p h. h };
   linked = λ p links going h. h;
   reasoned = λ o p h. h;
-  ended = λ kind p h. h;
+  ended = λ turn kind p m k h. inr h;
   freed = λ p l h. left_not p.engage.area p.engage.bit h.0 l;
   steps = steady_steps;
 }

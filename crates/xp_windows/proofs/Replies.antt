@@ -19,7 +19,7 @@ use Rattle.xp_rounds.proofs.Spots.{Spot}
 use Rattle.xp_protocol.specs.declared.contact.PartnerState.{PartnerState}
 use Rattle.xp_protocol.specs.declared.contact.PartnerState.TheVariants.{Requested, Activating, Active}
 use Rattle.xp_protocol.specs.declared.rule.PeerRule.{PeerRule}
-use Rattle.xp_protocol.specs.declared.rule.PeerRule.TheVariants.{AskActivation, TakeFlags, CloseArea, ZeroMagic, ClearOldBit, Prepare, OpenArea, SetEngagementBit, ReadRecord, StoreEcho, StoreSecond, ClearEngagementBit, LookAtPage, ClearDeactivationBit, TellPartner}
+use Rattle.xp_protocol.specs.declared.rule.PeerRule.TheVariants.{AskActivation, TakeFlags, CloseArea, ZeroMagic, ClearOldBit, Prepare, OpenArea, SetEngagementBit, ReadRecord, StoreEcho, StoreSecond, ClearEngagementBit, LookAtPage, CheckBeat, ClearDeactivationBit, TellPartner}
 use Rattle.xp_protocol.specs.declared.rule.Rule.{Rule}
 use Rattle.xp_protocol.specs.declared.rule.Rule.TheVariants.{Peer as ForPeer}
 use Rattle.xp_protocol.specs.Effects.{first_reason}
@@ -64,8 +64,8 @@ module _ (Q : Engage → Type 0) (z : Lasts Q) where
   abbrev On : Peer → Type 0
   On p = Q p.engage
 
-  contact_on : (stamp : ℕ) (p : Peer) → On p → On (try_contact stamp p).local
-  contact_on stamp p h = cond_peer On (p.engage.second && (p.engage.shown && not (is_some p.contact))) (contact_made stamp p) (same_peer p) (z.states p.engage Active h) h
+  contact_on : (turn stamp : ℕ) (p : Peer) → On p → On (try_contact turn stamp p).local
+  contact_on turn stamp p h = cond_peer On (p.engage.second && (p.engage.shown && not (is_some p.contact))) (contact_made turn stamp p) (same_peer p) (z.states p.engage Active h) h
 
   or_true : (a b : Bool) → a ≡ true → (a || b) ≡ true
   or_true true b e = refl
@@ -75,7 +75,7 @@ module _ (Q : Engage → Type 0) (z : Lasts Q) where
   read_on y p None w h = cond_peer On (nat_eq w 0) _ _ (z.magics p.engage (p.engage.back_off || not (is_some p.engage.echo)) (λ e. or_true p.engage.back_off (not (is_some p.engage.echo)) e) h) (cond_peer On (is_magic w) _ _ (z.reads p.engage _ p.engage.shown h) h)
   read_on y p (Some r) w h =
       cond_peer On (nat_eq r.done 1) _ _ (z.sessions p.engage _ w h) (cond_peer On (nat_eq r.done 2) _ _ (z.reads p.engage _ p.engage.shown h) (cond_peer On (nat_eq r.done 7) _ _
-      (cond_peer On (has_shown y.stamp p.engage r) _ _ (contact_on y.stamp (record p { engage = record p.engage { shown = true; reading = None } }) (z.reads p.engage None true h)) (z.reads p.engage None p.engage.shown h))
+      (cond_peer On (has_shown y.stamp p.engage r) _ _ (contact_on y.turn y.stamp (record p { engage = record p.engage { shown = true; reading = None } }) (z.reads p.engage None true h)) (z.reads p.engage None p.engage.shown h))
       (cond_peer On (is_wrong y.part r.done w) _ _ (z.reads p.engage None p.engage.shown h) (z.reads p.engage _ p.engage.shown h))))
 
 ready_left : (a : Area) (bit : Bool) → a ≡ Ready → is_left (record (cold_peer Old).engage { area = a; bit = bit }) ≡ true → ⊥
@@ -114,9 +114,9 @@ module _ (Q : Engage → Type 0) (z : Lasts Q) (goal : PeerRule) (N : Peer → P
   abbrev In : Peer → Type 0
   In p = Q p.engage
 
-  second_by : (y : Here) (p : Peer) (g : PeerGoing) → (StoreSecond ≡ goal) ⊎ Q (record p.engage { second = true }) → (StoreSecond ≡ goal) ⊎ In (try_contact y.stamp (record p { numbers = g; engage = record p.engage { second = true } })).local
+  second_by : (y : Here) (p : Peer) (g : PeerGoing) → (StoreSecond ≡ goal) ⊎ Q (record p.engage { second = true }) → (StoreSecond ≡ goal) ⊎ In (try_contact y.turn y.stamp (record p { numbers = g; engage = record p.engage { second = true } })).local
   second_by y p g (inl e) = inl e
-  second_by y p g (inr h) = inr (contact_on Q z y.stamp (record p { numbers = g; engage = record p.engage { second = true } }) h)
+  second_by y p g (inr h) = inr (contact_on Q z y.turn y.stamp (record p { numbers = g; engage = record p.engage { second = true } }) h)
 
   steps : (y : Here) (p : Peer) (g : PeerGoing) (m : PeerRule) (w : ℕ) → peer_can y p m → N p m → In p → (m ≡ goal) ⊎ In (peer_effect y (record p { numbers = g }) m w).local
   steps y p g AskActivation w can n h = inr (z.states p.engage Requested h)
@@ -132,18 +132,19 @@ module _ (Q : Engage → Type 0) (z : Lasts Q) (goal : PeerRule) (N : Peer → P
   steps y p g StoreSecond w can n h = second_by y p g (seconds y p can h)
   steps y p g ClearEngagementBit w can n h = clears y p g w can n h
   steps y p g LookAtPage w can n h = inr (cond_peer In _ _ _ h h)
+  steps y p g CheckBeat w can n h = inr h
   steps y p g ClearDeactivationBit w can n h = absurd (ready_off p.engage.area (z.ready p.engage h) can)
   steps y p g TellPartner w can n h = absurd (ready_leaving p.engage.area (z.ready p.engage h) can.0)
 
-  ends : (kind : CopyKind) (p : Peer) → In p → In (copy_ended kind p)
-  ends kind p h = z.reads p.engage (reading_failed kind p.engage.reading) p.engage.shown h
+  ends : (turn : ℕ) (kind : CopyKind) (p : Peer) → In p → In (copy_ended turn kind p)
+  ends turn kind p h = z.reads p.engage (reading_failed kind p.engage.reading) p.engage.shown h
 
   awaits : Awaits N In goal
   awaits = record {
     acts = record { linked = λ p links h. h; unwanted = λ p h. z.reasons (record p.engage { state = state_unwanted p.engage.area p.engage.state }) (first_reason p.engage.reason (if is_ready p.engage.area then Some Unloading else None)) (z.states p.engage (state_unwanted p.engage.area p.engage.state) h); wanted = λ p h. h };
     linked = λ p links going h. h;
     reasoned = λ o p h. z.reasons p.engage (first_reason p.engage.reason (if is_ready p.engage.area then o else None)) h;
-    ended = ends;
+    ended = λ turn kind p m k h. inr (ends turn kind p h);
     freed = λ p l h. ready_left p.engage.area p.engage.bit (z.ready p.engage h) l;
     steps = steps;
   }
@@ -427,6 +428,7 @@ told_steps y p g StoreEcho w can n h = absurd (leaving_ready p.engage.area h.0 c
 told_steps y p g StoreSecond w can n h = absurd (leaving_ready p.engage.area h.0 can.0)
 told_steps y p g ClearEngagementBit w can n h = inl refl
 told_steps y p g LookAtPage w can n h = inr (cond_peer (λ (x : Peer). Told x.engage) _ _ _ h h)
+told_steps y p g CheckBeat w can n h = inr h
 told_steps y p g ClearDeactivationBit w can n h = absurd (leaving_off p.engage.area h.0 can)
 told_steps y p g TellPartner w can n h = inr (h.0, h.1, refl)
 
@@ -435,7 +437,7 @@ told_awaits = record {
   acts = record { linked = λ p links h. h; unwanted = λ p h. h; wanted = λ p h. h };
   linked = λ p links going h. h;
   reasoned = λ o p h. h;
-  ended = λ kind p h. h;
+  ended = λ turn kind p m k h. inr h;
   freed = λ p l h. told_left p.engage.area p.engage.bit h.0 h.1 l;
   steps = told_steps;
 }

@@ -31,7 +31,7 @@ use Rattle.xp_protocol.specs.declared.rule.Argument.TheVariants.{Request, Reply,
 use Rattle.xp_protocol.specs.declared.rule.LinkRule.{LinkRule}
 use Rattle.xp_protocol.specs.declared.rule.LinkRule.TheVariants.{Ring, Pull, Acknowledge, SetFlag, ZeroGet, ZeroPut, StoreArgument, ReadArgument}
 use Rattle.xp_protocol.specs.declared.rule.PeerRule.{PeerRule}
-use Rattle.xp_protocol.specs.declared.rule.PeerRule.TheVariants.{AskActivation, TakeFlags, CloseArea, ZeroMagic, ClearOldBit, Prepare, OpenArea, SetEngagementBit, ReadRecord, StoreEcho, StoreSecond, ClearEngagementBit, LookAtPage, ClearDeactivationBit, TellPartner}
+use Rattle.xp_protocol.specs.declared.rule.PeerRule.TheVariants.{AskActivation, TakeFlags, CloseArea, ZeroMagic, ClearOldBit, Prepare, OpenArea, SetEngagementBit, ReadRecord, StoreEcho, StoreSecond, ClearEngagementBit, LookAtPage, CheckBeat, ClearDeactivationBit, TellPartner}
 use Rattle.xp_protocol.specs.declared.rule.Rule.{Rule}
 use Rattle.xp_protocol.specs.declared.rule.Rule.TheVariants.{Link}
 use Rattle.xp_protocol.specs.Effects.{Effect, just, Withdrawn, Note, BySend, ByPull, Accepted, Sent, Heard, TakeRefused, Released, Drained}
@@ -332,15 +332,15 @@ module _ (c : ℕ) where
   left_cut None p r h = h
   left_cut (Some reason) p r h = λ e. each_quiet (λ d x. link_down reason x) p (down_quiet reason (link_at p.links c))
 
-  contact_cut : (a : Bool) (stamp : ℕ) (p : Peer) → Cut p → Cut (if a then contact_made stamp p else same_peer p).local
-  contact_cut true stamp p h = λ e. absurd (cc)
-  contact_cut false stamp p h = h
+  contact_cut : (a : Bool) (turn stamp : ℕ) (p : Peer) → Cut p → Cut (if a then contact_made turn stamp p else same_peer p).local
+  contact_cut true turn stamp p h = λ e. absurd (cc)
+  contact_cut false turn stamp p h = h
 
   read_cut : (y : Here) (p : Peer) (o : Option Reading) (w : ℕ) → Cut p → Cut (record_read y p o w).local
   read_cut y p None w h = cond_peer Cut (nat_eq w 0) _ _ h (cond_peer Cut (is_magic w) _ _ h h)
   read_cut y p (Some r) w h =
       cond_peer Cut (nat_eq r.done 1) _ _ h (cond_peer Cut (nat_eq r.done 2) _ _ h (cond_peer Cut (nat_eq r.done 7) _ _
-      (cond_peer Cut (has_shown y.stamp p.engage r) _ _ (contact_cut (p.engage.second && (true && not (is_some p.contact))) y.stamp (record p { engage = record p.engage { shown = true; reading = None } }) h) h)
+      (cond_peer Cut (has_shown y.stamp p.engage r) _ _ (contact_cut (p.engage.second && (true && not (is_some p.contact))) y.turn y.stamp (record p { engage = record p.engage { shown = true; reading = None } }) h) h)
       (cond_peer Cut (is_wrong y.part r.done w) _ _ h h)))
 
   cut_steps : (y : Here) (p : Peer) (g : PeerGoing) (m : PeerRule) (w : ℕ) → peer_can y p m → Closes p m → Cut p → Cut (peer_effect y (record p { numbers = g }) m w).local
@@ -354,20 +354,21 @@ module _ (c : ℕ) where
   cut_steps y p g SetEngagementBit w can n h = h
   cut_steps y p g ReadRecord w can n h = read_cut y (record p { numbers = g }) p.engage.reading w h
   cut_steps y p g StoreEcho w can n h = h
-  cut_steps y p g StoreSecond w can n h = contact_cut (true && (p.engage.shown && not (is_some p.contact))) y.stamp (record p { numbers = g; engage = record p.engage { second = true } }) h
+  cut_steps y p g StoreSecond w can n h = contact_cut (true && (p.engage.shown && not (is_some p.contact))) y.turn y.stamp (record p { numbers = g; engage = record p.engage { second = true } }) h
   cut_steps y p g ClearEngagementBit w can n h = h
   cut_steps y p g LookAtPage w can n h = cond_peer Cut _ _ _ h h
+  cut_steps y p g CheckBeat w can n h = h
   cut_steps y p g ClearDeactivationBit w can n h = h
   cut_steps y p g TellPartner w can n h = h
 
-  ended_cut : (kind : CopyKind) (p : Peer) → Cut p → Cut (copy_ended kind p)
-  ended_cut kind p h = h
+  ended_cut : (turn : ℕ) (kind : CopyKind) (p : Peer) → Cut p → Cut (copy_ended turn kind p)
+  ended_cut turn kind p h = h
 
   cut_keep : StepsLeave Closes Cut
   cut_keep = record {
     linked = λ p links going some h. λ e. absurd (uncut p.contact some e);
     reasoned = λ o p h. h;
-    ended = λ kind p m n h. ended_cut kind p h;
+    ended = λ turn kind p m k n h. ended_cut turn kind p h;
     freed = λ p l h. λ e. each_quiet (λ d x. link_finished x) p (record { counters = refl; copied = refl });
     steps = cut_steps;
   }

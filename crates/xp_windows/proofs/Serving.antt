@@ -33,7 +33,7 @@ use Rattle.xp_plan.proofs.Visiting.{first_is, next_is}
 use Rattle.xp_windows.specs.Windows.{middle, begins, answers, Steps, IsFor, IsOpenTo, At, CopiesClosed, IsUp, SomeTurn, Throughout, IsTaking, IsBooting, Owed, IsWindow, Windows}
 use Rattle.xp_windows.specs.Visited.{rule_by, rule_made, visit_after, FollowsFrom, ArePrompt, Visited}
 use Rattle.xp_windows.proofs.Places.{Turns, follows_plan, first_holds, placed, peer_placed}
-use Rattle.xp_windows.proofs.Throughout.{activations_taken, deactivations_taken, engagements_read, flags_taken, sends_made}
+use Rattle.xp_windows.proofs.Throughout.{beats_stored, offlines_stored, activations_taken, deactivations_taken, engagements_read, flags_taken, sends_made}
 use Rattle.xp_windows.proofs.Signals.{requests_made, gets_stored}
 use Rattle.xp_windows.proofs.Copies.{whole, copies_made}
 use Rattle.xp_windows.proofs.Takes.{takes_made}
@@ -48,6 +48,7 @@ use Rattle.xp_windows.proofs.Engages.{bits_set}
 use Rattle.xp_windows.proofs.Replies.{bits_left, bits_cleared, echoes_stored, seconds_stored}
 use Rattle.xp_windows.proofs.Records.{records_read}
 use Rattle.xp_windows.proofs.Looks.{Tied, tied_next, tied_first, looks_made}
+use Rattle.xp_windows.proofs.Checks.{checks_made}
 use Rattle.xp_windows.proofs.Boots.{AtBoot, boot_kept, boot_over, left_few}
 use Rattle.xp_windows.proofs.Held.{Ended, ended, held, some_still, then_still, from_still}
 use Rattle.xp_windows.proofs.Peers.{begun_all, turns_all}
@@ -151,6 +152,9 @@ owed s boot st ts last l long h w =
     record {
       begins = λ idle left. some_still s (last ∷ []) _ st ts (first_begins s st ts (omega (arith, long)) (first_holds (IsUp boot) s st ts up).up x.prompt idle left);
       answers = λ h. some_still s (last ∷ []) _ st ts (first_answers s st ts (omega (arith, long)) x.prompt h);
+      beats = λ h. some_still s (last ∷ []) _ st ts (beats_stored boot s some v st ts enough y (held s _ st ts last h));
+      offlines = λ h. some_still s (last ∷ []) _ st ts (offlines_stored boot s some v st ts enough y (held s _ st ts last h));
+      checks = λ q p some due h. let z = placed s q l p in some_still s (last ∷ []) _ st ts (checks_made boot s q z some v st ts enough y x.paced x.facts (x.tied q z) (held s _ st ts last h) due);
       activations = some_still s (last ∷ []) _ st ts (activations_taken boot s some v st ts enough y);
       deactivations = some_still s (last ∷ []) _ st ts (deactivations_taken boot s some v st ts enough y);
       looks = λ q p. let z = placed s q l p in from_still s (last ∷ []) _ _ st ts (looks_made s q z boot v st ts enough y x.paced (x.tied q z));

@@ -8,7 +8,7 @@ use Rattle.xp_base.specs.History.{Turn}
 use Rattle.xp_script.specs.declared.part.ScenarioPart.{ScenarioPart}
 use Rattle.xp_protocol.specs.declared.contact.PartnerState.TheVariants.{Requested, Activating}
 use Rattle.xp_protocol.specs.declared.rule.PeerRule.{PeerRule}
-use Rattle.xp_protocol.specs.declared.rule.PeerRule.TheVariants.{AskActivation, TakeFlags, CloseArea, ZeroMagic, ClearOldBit, Prepare, OpenArea, SetEngagementBit, ReadRecord, StoreEcho, StoreSecond, ClearEngagementBit, LookAtPage, ClearDeactivationBit, TellPartner}
+use Rattle.xp_protocol.specs.declared.rule.PeerRule.TheVariants.{AskActivation, TakeFlags, CloseArea, ZeroMagic, ClearOldBit, Prepare, OpenArea, SetEngagementBit, ReadRecord, StoreEcho, StoreSecond, ClearEngagementBit, LookAtPage, CheckBeat, ClearDeactivationBit, TellPartner}
 use Rattle.xp_protocol.specs.State.{State, Old, Ready, Peer, PeerGoing, Engage, Reading, cold_peer, peer_of}
 use Rattle.xp_protocol.specs.Peering.{Here, is_bad_flags, is_magic, is_wrong, has_shown, peer_can, peer_effect, prepared, record_read, contact_made, same_peer, area_left_for, copy_ended, with_reason}
 use Rattle.xp_protocol.specs.Acts.{unwanted}
@@ -171,9 +171,9 @@ left_stored : (o : Option Reason) (p : Peer) → Stored p → Stored (area_left_
 left_stored None p h = h
 left_stored (Some r) p h = same_words p.engage (area_left_for (Some r) p).local.engage refl refl refl h
 
-contact_stored : (b : Bool) (stamp : ℕ) (p : Peer) → Stored p → Stored (if b then contact_made stamp p else same_peer p).local
-contact_stored true stamp p h = same_words p.engage (contact_made stamp p).local.engage refl refl refl h
-contact_stored false stamp p h = h
+contact_stored : (b : Bool) (turn stamp : ℕ) (p : Peer) → Stored p → Stored (if b then contact_made turn stamp p else same_peer p).local
+contact_stored true turn stamp p h = same_words p.engage (contact_made turn stamp p).local.engage refl refl refl h
+contact_stored false turn stamp p h = h
 
 with_words : (p : Peer) (x : Engage) → x.places_put ≡ p.engage.places_put → x.args_put ≡ p.engage.args_put → x.counters_put ≡ p.engage.counters_put → Stored p → Stored (record p { engage = x })
 with_words p x a b c h = same_words p.engage x a b c h
@@ -184,7 +184,7 @@ read_stored y p (Some r) w h =
     cond_peer Stored (nat_eq r.done 1) _ _ (with_words p (record p.engage { read = Some w; reading = Some (record r { done = 2 }) }) refl refl refl h)
     (cond_peer Stored (nat_eq r.done 2) _ _ (with_words p (record p.engage { reading = Some (record r { done = 3; echo = w }) }) refl refl refl h)
     (cond_peer Stored (nat_eq r.done 7) _ _
-    (cond_peer Stored (has_shown y.stamp p.engage r) _ _ (contact_stored (p.engage.second && (true && not (is_some p.contact))) y.stamp (record p { engage = record p.engage { shown = true; reading = None } }) (with_words p (record p.engage { shown = true; reading = None }) refl refl refl h)) (with_words p (record p.engage { reading = None }) refl refl refl h))
+    (cond_peer Stored (has_shown y.stamp p.engage r) _ _ (contact_stored (p.engage.second && (true && not (is_some p.contact))) y.turn y.stamp (record p { engage = record p.engage { shown = true; reading = None } }) (with_words p (record p.engage { shown = true; reading = None }) refl refl refl h)) (with_words p (record p.engage { reading = None }) refl refl refl h))
     (cond_peer Stored (is_wrong y.part r.done w) _ _ (with_words p (record p.engage { reading = None }) refl refl refl h) (with_words p (record p.engage { reading = Some (record r { done = r.done + 1 }) }) refl refl refl h))))
 
 abbrev Whatever : Peer → PeerRule → Type 0
@@ -201,9 +201,10 @@ stored_word y p g OpenArea w can h = with_words p (record p.engage { area = Read
 stored_word y p g SetEngagementBit w can h = with_words p (record p.engage { bit = true; state = Activating; read = None; reading = None; back_off = false }) refl refl refl h
 stored_word y p g ReadRecord w can h = read_stored y (record p { numbers = g }) p.engage.reading w h
 stored_word y p g StoreEcho w can h = with_words p (record p.engage { echo = p.engage.read; back_off = false }) refl refl refl h
-stored_word y p g StoreSecond w can h = contact_stored (true && (p.engage.shown && not (is_some p.contact))) y.stamp (record p { numbers = g; engage = record p.engage { second = true } }) (with_words p (record p.engage { second = true }) refl refl refl h)
+stored_word y p g StoreSecond w can h = contact_stored (true && (p.engage.shown && not (is_some p.contact))) y.turn y.stamp (record p { numbers = g; engage = record p.engage { second = true } }) (with_words p (record p.engage { second = true }) refl refl refl h)
 stored_word y p g ClearEngagementBit w can h = same_words p.engage (peer_effect y (record p { numbers = g }) ClearEngagementBit w).local.engage refl refl refl h
 stored_word y p g LookAtPage w can h = cond_peer Stored _ _ _ h h
+stored_word y p g CheckBeat w can h = h
 stored_word y p g ClearDeactivationBit w can h = with_words p (record p.engage { deactivation_cleared = true }) refl refl refl h
 stored_word y p g TellPartner w can h = with_words p (record p.engage { told = true }) refl refl refl h
 
@@ -211,7 +212,7 @@ pub stored_steps : StepsLeave Whatever Stored
 stored_steps = record {
   linked = λ p links going some h. h;
   reasoned = λ o p h. same_words p.engage (with_reason o p).engage refl refl refl h;
-  ended = λ kind p m n h. same_words p.engage (copy_ended kind p).engage refl refl refl h;
+  ended = λ turn kind p m k n h. same_words p.engage (copy_ended turn kind p).engage refl refl refl h;
   freed = λ p l h. free_words (area_off p).local.engage refl refl refl;
   steps = λ y p g m w can n h. stored_word y p g m w can h;
 }

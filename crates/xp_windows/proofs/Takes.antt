@@ -150,8 +150,8 @@ module _ (boot : ℕ) (s : ScenarioPart) (q c : ℕ) (wait : Bool) (some : 0 < s
 
   entry_step : (z : State) → Takes z → has_entry (end_of z q c).sides.pull ≡ true → asked (script_asked s z 0) ≡ Some (Some (Link q c (Pull ReadEntry)))
   entry_step z g there =
-      ap (λ (b : Bool). asked (if b then command_asked z 0 (current s z) else None)) g.doing
-      ∙ ap (λ (o : Option Command). asked (command_asked z 0 o)) g.now
+      ap (λ (b : Bool). asked (if b then command_asked s z 0 (current s z) else None)) g.doing
+      ∙ ap (λ (o : Option Command). asked (command_asked s z 0 o)) g.now
       ∙ asked_link q c z (take_at (end_of z q c)) (Pull ReadEntry) g.channel.met (entry_asked (end_of z q c) g.channel.connected g.goes_on there)
 
   entries_loaded : has_entry (end_of st q c).sides.pull ≡ true → SomeTurn (Steps (At q c TakesOn) s) s st ts

@@ -1,7 +1,7 @@
 -- What a partition owes within a window of turns, whatever the memory answers: nothing that is due
 -- waits longer. A window lies within one boot, and a planned restart may come after its last turn.
 -- What its premises say holds throughout: before each of its turns, and right before each step.
-use Rattle.std.specs.Prelude.{◌≡◌, ℕ, ◌<◌, Bool, true, false, ◌||◌, List, [], ◌∷◌, ◌++◌, length, Option, Some, None, IsSome, ◌⊎◌}
+use Rattle.std.specs.Prelude.{◌≡◌, ℕ, ◌+◌, ◌<◌, ◌≤◌, Bool, true, false, ◌||◌, List, [], ◌∷◌, ◌++◌, length, Option, Some, None, IsSome, ◌⊎◌}
 use Rattle.xp_base.specs.History.{Act, Begun, Answered, Noticed, Marked, Turn}
 use Rattle.xp_base.specs.Windows.{window_of}
 use Rattle.xp_base.specs.declared.link.Kind.{Kind}
@@ -16,9 +16,9 @@ use Rattle.xp_protocol.specs.declared.contact.Size.{Size}
 use Rattle.xp_protocol.specs.Linking.{owed, kind_of, has_argument}
 use Rattle.xp_protocol.specs.declared.rule.PullRule.TheVariants.{ReadCounters, ReadEntry}
 use Rattle.xp_protocol.specs.declared.rule.PeerRule.{PeerRule}
-use Rattle.xp_protocol.specs.declared.rule.PeerRule.TheVariants.{TakeFlags, CloseArea, OpenArea, SetEngagementBit, ReadRecord, StoreEcho, StoreSecond, ClearEngagementBit, LookAtPage, TellPartner}
+use Rattle.xp_protocol.specs.declared.rule.PeerRule.TheVariants.{TakeFlags, CloseArea, OpenArea, SetEngagementBit, ReadRecord, StoreEcho, StoreSecond, ClearEngagementBit, LookAtPage, CheckBeat, TellPartner}
 use Rattle.xp_protocol.specs.declared.rule.OwnRule.{OwnRule}
-use Rattle.xp_protocol.specs.declared.rule.OwnRule.TheVariants.{TakeActivation, TakeDeactivation, ReadEngaged}
+use Rattle.xp_protocol.specs.declared.rule.OwnRule.TheVariants.{TakeActivation, StoreBeat, StoreOffline, TakeDeactivation, ReadEngaged}
 use Rattle.xp_protocol.specs.declared.rule.Rule.{Rule}
 use Rattle.xp_protocol.specs.declared.rule.Rule.TheVariants.{Link, Peer as ForPeer, Own}
 use Rattle.xp_protocol.specs.Parts.{IsEndOf, script_in}
@@ -26,7 +26,7 @@ use Rattle.xp_protocol.specs.State.{State, Booting, Up, Off, Ready, Leaving, Pee
 use Rattle.xp_protocol.specs.declared.contact.PartnerState.TheVariants.{Activating}
 use Rattle.xp_protocol.specs.Pulling.{is_copying}
 use Rattle.xp_protocol.specs.Peering.{HasWaited, is_good}
-use Rattle.xp_protocol.specs.Rules.{IsPartner, here_of}
+use Rattle.xp_protocol.specs.Rules.{IsPartner, here_of, offline_asked}
 use Rattle.xp_protocol.specs.Decode.{rule_of}
 use Rattle.xp_protocol.specs.Acts.{current, due, after_acts}
 use Rattle.xp_protocol.specs.Runs.{start, after_step, after_turn, state_after}
@@ -173,6 +173,14 @@ pub record IsTaking (s : ScenarioPart) (q c : ℕ) (wait : Bool) (st : State) : 
 abbrev pub IsLeft : ScenarioPart → State → Type 0
 IsLeft s st = any_left s.part 0 st.peers ≡ true
 
+-- the partition isn't offline
+abbrev pub IsOnline : State → Type 0
+IsOnline st = st.beats.offline ≡ 0
+
+-- the command in progress has still to store the offline count
+abbrev pub IsCounting : ScenarioPart → State → Type 0
+IsCounting s st = IsSome (offline_asked s st)
+
 -- a step at an end, by such a rule
 abbrev pub At : ℕ → ℕ → (End → LinkRule → Type 0) → State → Rule → Type 0
 At q c E st (Link k d m) = (k ≡ q) × (d ≡ c) × E (end_of st q c) m
@@ -242,6 +250,10 @@ BeginsRecord p after = p.engage.reading ≡ None
 abbrev pub EndsRecord : Peer → Peer → Type 0
 EndsRecord p after = after.engage.reading ≡ None
 
+-- a check of the partner's heartbeat is over with its third word, or a load that fails
+abbrev pub EndsCheck : Peer → Peer → Type 0
+EndsCheck p after = after.watch.words ≡ []
+
 -- a word of a copy of a channel is loaded while the channel closes
 abbrev pub CopiesClosed : End → LinkRule → Type 0
 CopiesClosed e (Pull m) = IsSome e.shake.reason
@@ -254,6 +266,7 @@ pub record Owed (s : ScenarioPart) (st : State) (window : List Turn) : Type 0 wh
       SomeTurn (λ x t. (begins t.before || begins t.after) ≡ true) s st window
   pub answers : IsSome (due s st) →
       SomeTurn (λ x t. (answers t.before || answers t.after) ≡ true) s st window
+  pub beats : Throughout IsOnline s st window → SomeTurn (Steps (IsOwn StoreBeat) s) s st window
   pub activations : SomeTurn (Steps (IsOwn TakeActivation) s) s st window
   pub deactivations : SomeTurn (Steps (IsOwn TakeDeactivation) s) s st window
   pub looks : (q : ℕ) → IsPartner s q →
@@ -304,6 +317,12 @@ pub record Owed (s : ScenarioPart) (st : State) (window : List Turn) : Type 0 wh
       SomeTurn (Steps (At q c SendsOn) s) s st window
   pub takes : (q c : ℕ) (wait : Bool) → Throughout (IsTaking s q c wait) s st window →
       SomeTurn (Steps (At q c TakesOn) s) s st window
+  pub offlines : Throughout (IsCounting s) s st window →
+      SomeTurn (Steps (IsOwn StoreOffline) s) s st window
+  pub checks : (q : ℕ) → IsPartner s q → 0 < s.check →
+      (peer_of st q).watch.since + s.check ≤ st.clock.turns + 1 →
+      Throughout (IsMet q) s st window →
+      SomeTurn (Changes EndsCheck CheckBeat s q) s st window
   pub closes : (q : ℕ) → IsPartner s q → (peer_of st q).engage.area ≡ Ready →
       IsSome (peer_of st q).engage.reason → SomeTurn (Steps (IsFor q CloseArea) s) s st window
   pub tells : (q : ℕ) → IsPartner s q → (peer_of st q).engage.area ≡ Leaving →

@@ -42,7 +42,7 @@ promised promise serve s h w law r = record {
       (visited at.0.part (part_of s p) (turns_of p h) node.part node.made.visited));
 }
 
-pub stays_promised : (promise : KeepPromises) (serve : KeepWindows) (w w' : World) → StaysReached w w' → StaysPromised w w'
-stays_promised promise serve w w' stays s h law r =
+pub stays_promised : (promise : KeepPromises) (serve : KeepWindows) (p : ℕ) (w w' : World) → StaysReached p w w' → StaysPromised p w w'
+stays_promised promise serve p w w' stays s h law r =
     let found = stays s h r in
-    (found.0, found.1, promised promise serve s found.0 w' law found.1)
+    (found.0, found.1, found.2, promised promise serve s found.0 w' law found.2)

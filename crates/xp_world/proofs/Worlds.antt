@@ -61,12 +61,12 @@ opened_ready s w words new count = record {
   };
 }
 
--- a turn keeps it that some history reaches the world
-stays_reached : (w w' : World) (p : ℕ) → WorldTurns w w' p → StaysReached w w'
+-- the history of the old world, or it with the turn, reaches the new one
+stays_reached : (w w' : World) (p : ℕ) → WorldTurns w w' p → StaysReached p w w'
 stays_reached w w' p t s h r =
     elim t.turn [
-      | inl k ↦ (h, stayed s h w w' p r t k)
-      | inr k ↦ (h ++ Turned p k.turns.turn ∷ [], turned s h w w' p r t k)
+      | inl k ↦ (h, inl refl, stayed s h w w' p r t k)
+      | inr k ↦ (h ++ Turned p k.turns.turn ∷ [], inr (k.turns.turn, refl), turned s h w w' p r t k)
     ]
 
 -- the world is ready after a turn, and after a refusal
@@ -121,10 +121,11 @@ room_made n room ts m = record {
 same_node : (s : Scenario) (h : List Event) (p : ℕ) (n n' : NodeView) → IsSameNode n n' → IsNodeOf s h p n → IsNodeOf s h p n'
 same_node s h p n n' k was = subst (IsNodeOf s h p) (sym k.same) (record { part = was.part; made = room_made n n'.room (turns_of p h) was.made })
 
-same_reached : (w w' : World) (p : ℕ) → IsSameWorld w w' p → StaysReached w w'
+same_reached : (w w' : World) (p : ℕ) → IsSameWorld w w' p → StaysReached p w w'
 same_reached w w' p t s h r =
     let N : List NodeView → Type 0 = λ ns. (k : ℕ) (n : NodeView) → slice_get ns k ≡ Some n → IsNodeOf s h k n in (
       h,
+      inl refl,
       record {
         words = subst (λ (m : Memory). ReachedWords s h m) (sym t.words) r.words;
         count = ap length t.nodes ∙ length-set w.nodes.items p t.after ∙ r.count;
@@ -140,7 +141,7 @@ pub same_on : (r : Result (Unit {0}) AllocError) (w w' : World) (p : ℕ) (befor
 same_on (Ok x) w w' p before after was nodes same words = tt
 same_on (Err e) w w' p before after was nodes same words = record { before = before; after = after; was = was; nodes = nodes; same = same; words = words }
 
-pub reached_on : (r : Result (Unit {0}) AllocError) (w w' : World) (p : ℕ) → OnOk r (WorldTurns w w' p) → OnErr r (IsSameWorld w w' p) → StaysReached w w'
+pub reached_on : (r : Result (Unit {0}) AllocError) (w w' : World) (p : ℕ) → OnOk r (WorldTurns w w' p) → OnErr r (IsSameWorld w w' p) → StaysReached p w w'
 reached_on (Ok x) w w' p ok err = stays_reached w w' p ok
 reached_on (Err e) w w' p ok err = same_reached w w' p err
 

@@ -1,7 +1,7 @@
 -- Worlds that a history reaches, and the turns that lead from one world to another.
-use Rattle.std.specs.Prelude.{◌≡◌, ℕ, ◌<◌, List, [], ◌∷◌, length, Some, None, slice_get, slice_set}
+use Rattle.std.specs.Prelude.{◌≡◌, ℕ, ◌<◌, ◌⊎◌, List, [], ◌∷◌, ◌++◌, length, Some, None, slice_get, slice_set}
 use Rattle.xp_base.specs.Memory.{Memory}
-use Rattle.xp_base.specs.History.{Event, turns_of}
+use Rattle.xp_base.specs.History.{Turn, Event, Turned, turns_of}
 use Rattle.xp_script.specs.declared.scenario.Scenario.{Scenario}
 use Rattle.xp_script.specs.Lawful.{IsLawful}
 use Rattle.xp_script.specs.Parts.{part_of}
@@ -78,14 +78,20 @@ pub record IsSameWorld (old new : World) (p : ℕ) : Type 0 where
   pub same : IsSameNode before after
   pub words : new.words ≡ old.words
 
--- where some history reaches the one, some history reaches the other
-abbrev pub StaysReached : World → World → Type 0
-StaysReached old new =
-    (s : Scenario) (h : List Event) → Reached s h old → (g : List Event) × Reached s g new
+-- history g is history h, or h and one turn of partition p behind it
+abbrev pub GoesOn : ℕ → List Event → List Event → Type 0
+GoesOn p h g = (g ≡ h) ⊎ ((t : Turn) × (g ≡ h ++ Turned p t ∷ []))
 
--- where some history of a lawful scenario reaches the one, some history reaches the other, and all
--- that is promised of a history holds of it
-abbrev pub StaysPromised : World → World → Type 0
-StaysPromised old new =
+-- where a history reaches the one world, it reaches the other too, alone or with one turn of
+-- partition p more
+abbrev pub StaysReached : ℕ → World → World → Type 0
+StaysReached p old new =
+    (s : Scenario) (h : List Event) → Reached s h old →
+    (g : List Event) × GoesOn p h g × Reached s g new
+
+-- where a history of a lawful scenario reaches the one world, it reaches the other too, alone or
+-- with one turn of partition p more, and all that is promised of a history holds of it
+abbrev pub StaysPromised : ℕ → World → World → Type 0
+StaysPromised p old new =
     (s : Scenario) (h : List Event) → IsLawful s → Reached s h old →
-    (g : List Event) × Reached s g new × Promised s g new.words
+    (g : List Event) × GoesOn p h g × Reached s g new × Promised s g new.words

@@ -42,8 +42,8 @@ impl World {
         requires ready { IsReady self.old }
         ensures ok { OnOk result (WorldTurns self.old self.new part) }
         ensures err { OnErr result (IsSameWorld self.old self.new part) }
-        ensures reached { StaysReached self.old self.new }
-        ensures promised { StaysPromised self.old self.new }
+        ensures reached { StaysReached part self.old self.new }
+        ensures promised { StaysPromised part self.old self.new }
         ensures ready { IsReady self.new }
         ensures count { length self.new.nodes.items ≡ length self.old.nodes.items }
     {

@@ -335,6 +335,7 @@ module _ (s : Scenario) (law : IsLawful s) (p : ℕ) (lp : p < s.count) where
         peers = λ q. warm_all (opened_new (part_of s p)) ls lawful_at (first_peers s.count ls) (λ j. first_at (λ (x : Peer). IsBacked most 0 x) s.count ls j (base_backed ls) (cold_backed most 0 line_fits Old)) q;
         own = warm_shut (opened_new (part_of s p)) ls lawful_at (first_peers s.count ls) (first_at IsShut s.count ls p (base_shut ls) (refl, refl));
         begun = omega arith;
+        beats = record { offline = omega arith; stored_for = omega arith };
         stamp = stamp_low ls;
         read = λ v e. absurd (cc);
         word = (let e = opening_stamped s p lp in let l = stamp_booting ls in omega (arith, e, l));

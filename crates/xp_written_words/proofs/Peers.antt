@@ -10,7 +10,7 @@ use Rattle.xp_base.specs.Kinds.{kinds_in}
 use Rattle.xp_protocol.specs.declared.contact.PartnerState.TheVariants.{Active}
 use Rattle.xp_protocol.specs.declared.rule.AreaWord.TheVariants.{SessionWord, EchoWord, PlaceWord, ArgsWord, FlagWord, CounterWord}
 use Rattle.xp_protocol.specs.declared.rule.PeerRule.{PeerRule}
-use Rattle.xp_protocol.specs.declared.rule.PeerRule.TheVariants.{AskActivation, TakeFlags, CloseArea, ZeroMagic, ClearOldBit, Prepare, OpenArea, SetEngagementBit, ReadRecord, StoreEcho, StoreSecond, ClearEngagementBit, LookAtPage, ClearDeactivationBit, TellPartner}
+use Rattle.xp_protocol.specs.declared.rule.PeerRule.TheVariants.{AskActivation, TakeFlags, CloseArea, ZeroMagic, ClearOldBit, Prepare, OpenArea, SetEngagementBit, ReadRecord, StoreEcho, StoreSecond, ClearEngagementBit, LookAtPage, CheckBeat, ClearDeactivationBit, TellPartner}
 use Rattle.xp_protocol.specs.Effects.{Effect, Note}
 use Rattle.xp_protocol.specs.State.{End, Peer, Engage, Reading, Area, cold_peer, idle_end, link_at}
 use Rattle.xp_protocol.specs.Linking.{link_down, link_finished, link_joined, flags_got, booted_end}
@@ -72,15 +72,15 @@ module _ (most begun : ℕ) (line : LINE_BYTES ≤ most) where
   either true f g x y = x
   either false f g x y = y
 
-  meets : (stamp : ℕ) (z : Peer) → On z → On (try_contact stamp z).local
-  meets stamp z h = either (z.engage.second && (z.engage.shown && not (is_some z.contact))) (contact_made stamp z) (same_peer z)
+  meets : (turn stamp : ℕ) (z : Peer) → On z → On (try_contact turn stamp z).local
+  meets turn stamp z h = either (z.engage.second && (z.engage.shown && not (is_some z.contact))) (contact_made turn stamp z) (same_peer z)
       (each_links (λ c e. link_joined z.both_new (contact_of stamp z.engage) e) (record z { contact = Some (contact_of stamp z.engage); engage = record z.engage { state = Active } }) (λ c e. joins most begun line z.both_new (contact_of stamp z.engage) e) h) h
 
   reads : (y : Here) (p : Peer) (w : ℕ) → w < 2 ^ 64 → On p → (o : Option Reading) → On (record_read y p o w).local
   reads y p w small h None = either (eqb w 0) _ _ h (either (is_magic w) _ _ h h)
   reads y p w small h (Some r) =
       either (eqb r.done 1) _ _ (record { read = λ v e. subst (λ (n : ℕ). n < 2 ^ 64) (same_read w v e) small; count = h.count; ends = h.ends }) (either (eqb r.done 2) _ _ h (either (eqb r.done 7) _ _
-      (either (has_shown y.stamp p.engage r) _ _ (meets y.stamp (record p { engage = record p.engage { shown = true; reading = None } }) h) h)
+      (either (has_shown y.stamp p.engage r) _ _ (meets y.turn y.stamp (record p { engage = record p.engage { shown = true; reading = None } }) h) h)
       (either (is_wrong y.part r.done w) _ _ h h)))
 
   left : (o : Option Reason) (p : Peer) → On p → On (area_left_for o p).local
@@ -103,9 +103,10 @@ module _ (most begun : ℕ) (line : LINE_BYTES ≤ most) where
   peered y p SetEngagementBit w can small h = record { read = λ v e. absurd (cc); count = h.count; ends = h.ends }
   peered y p ReadRecord w can small h = reads y p w small h p.engage.reading
   peered y p StoreEcho w can small h = h
-  peered y p StoreSecond w can small h = meets y.stamp (record p { engage = record p.engage { second = true } }) h
+  peered y p StoreSecond w can small h = meets y.turn y.stamp (record p { engage = record p.engage { second = true } }) h
   peered y p ClearEngagementBit w can small h = record { read = λ v e. absurd (cc); count = h.count; ends = h.ends }
   peered y p LookAtPage w can small h = either (eqb (length (p.paging ++ w ∷ [])) 5) _ _ h h
+  peered y p CheckBeat w can small h = h
   peered y p ClearDeactivationBit w can small h = h
   peered y p TellPartner w can small h = h
 
@@ -113,9 +114,9 @@ module _ (most begun : ℕ) (line : LINE_BYTES ≤ most) where
   numbered None p h = h
   numbered (Some mark) p h = h
 
-  pub failed : (mark : Option CopyMark) (p : Peer) → On p → On (peer_failed mark p)
-  failed None p h = h
-  failed (Some mark) p h = h
+  pub failed : (turn : ℕ) (mark : Option CopyMark) (p : Peer) → On p → On (peer_failed turn mark p)
+  failed turn None p h = h
+  failed turn (Some mark) p h = h
 
   pub freed : (w q : ℕ) (p : Peer) → On p → On (peer_read w q p).local
   freed w q p h = either (is_left p.engage && not (is_flagged w q)) (area_off p) (same_peer p) (each_links (λ c e. link_finished e) (record p { contact = None; engage = freed_engage p.engage }) (λ c e. finishes most begun line e) (record { read = λ v e. absurd (cc); count = h.count; ends = h.ends })) h

@@ -27,8 +27,8 @@ use Rattle.xp_protocol.specs.declared.rule.AreaWord.TheVariants.{SessionWord, Ec
 use Rattle.xp_protocol.specs.declared.rule.RingRule.TheVariants.{ReadGet, WriteEntryWord, AcceptMessage}
 use Rattle.xp_protocol.specs.declared.rule.PullRule.TheVariants.{ReadCounters, ReadEntry}
 use Rattle.xp_protocol.specs.declared.rule.LinkRule.TheVariants.{Ring, Pull, Acknowledge, SetFlag, ZeroGet, ZeroPut, StoreArgument, ReadArgument}
-use Rattle.xp_protocol.specs.declared.rule.PeerRule.TheVariants.{AskActivation, TakeFlags, CloseArea, ZeroMagic, ClearOldBit, Prepare, OpenArea, SetEngagementBit, ReadRecord, StoreEcho, StoreSecond, ClearEngagementBit, LookAtPage, ClearDeactivationBit, TellPartner}
-use Rattle.xp_protocol.specs.declared.rule.OwnRule.TheVariants.{ReadEngaged, TakeDeactivation, ReadStamp, ZeroMask, ZeroOffline, WriteStamp, StoreMask, TakeActivation}
+use Rattle.xp_protocol.specs.declared.rule.PeerRule.TheVariants.{AskActivation, TakeFlags, CloseArea, ZeroMagic, ClearOldBit, Prepare, OpenArea, SetEngagementBit, ReadRecord, StoreEcho, StoreSecond, ClearEngagementBit, LookAtPage, CheckBeat, ClearDeactivationBit, TellPartner}
+use Rattle.xp_protocol.specs.declared.rule.OwnRule.TheVariants.{ReadEngaged, TakeDeactivation, ReadStamp, ZeroMask, ZeroOffline, WriteStamp, StoreMask, TakeActivation, StoreBeat, StoreOffline}
 use Rattle.xp_protocol.specs.declared.rule.Rule.{Rule}
 use Rattle.xp_protocol.specs.declared.rule.Rule.TheVariants.{Link, Peer as ForPeer, Own}
 use Rattle.xp_protocol.specs.Parts.{script_in}
@@ -84,6 +84,7 @@ stamp_kept su st (ForPeer k StoreEcho) w q n = refl
 stamp_kept su st (ForPeer k StoreSecond) w q n = refl
 stamp_kept su st (ForPeer k ClearEngagementBit) w q n = refl
 stamp_kept su st (ForPeer k LookAtPage) w q n = refl
+stamp_kept su st (ForPeer k CheckBeat) w q n = refl
 stamp_kept su st (ForPeer k ClearDeactivationBit) w q n = refl
 stamp_kept su st (ForPeer k TellPartner) w q n = refl
 stamp_kept su st (Own ReadEngaged) w q n = refl
@@ -93,6 +94,8 @@ stamp_kept su st (Own ZeroMask) w q n = refl
 stamp_kept su st (Own ZeroOffline) w q n = refl
 stamp_kept su st (Own StoreMask) w q n = refl
 stamp_kept su st (Own TakeActivation) w q n = refl
+stamp_kept su st (Own StoreBeat) w q n = refl
+stamp_kept su st (Own StoreOffline) w q n = refl
 
 stamp_put : (su : ScenarioPart) (st : State) (w : Words) → does_rule su st (Own WriteStamp) w su.part (Open STAMP) ≡ or_zero st.boot.read + 1
 stamp_put su st w = rw (self su.part) refl

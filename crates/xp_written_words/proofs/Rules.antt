@@ -4,7 +4,7 @@ use Rattle.std.specs.Prelude.{IsSome, nat_lt}
 use Rattle.std.specs.Int.{bit_at}
 use Rattle.std.proofs.lemmas.Bool.{cond_both}
 use Rattle.std.proofs.lemmas.Bool.Decides.{nat_tests}
-use Rattle.std.proofs.lemmas.Nat.{or_lt, pow_pos, pow_below}
+use Rattle.std.proofs.lemmas.Nat.{mod_below, or_lt, pow_pos, pow_below}
 use Rattle.std.proofs.lemmas.Nat.Bits.{bit_at_or, bit_at-pow_other, bit_at-zero}
 use Rattle.xp_base.specs.declared.layout.TheConstants.{VERSION_AT, STAMP, MASK, ACTIVATION, ENGAGED, DEACTIVATION}
 use Rattle.xp_base.specs.declared.link.Kind.{Kind}
@@ -32,8 +32,8 @@ use Rattle.xp_protocol.specs.declared.rule.RecordField.TheVariants.{ArgsPlace, C
 use Rattle.xp_protocol.specs.declared.rule.RingRule.TheVariants.{ReadGet, WriteEntryWord, AcceptMessage}
 use Rattle.xp_protocol.specs.declared.rule.PullRule.TheVariants.{ReadCounters, ReadEntry}
 use Rattle.xp_protocol.specs.declared.rule.LinkRule.TheVariants.{Ring, Pull, Acknowledge, SetFlag, ZeroGet, ZeroPut, StoreArgument, ReadArgument}
-use Rattle.xp_protocol.specs.declared.rule.PeerRule.TheVariants.{AskActivation, TakeFlags, CloseArea, ZeroMagic, ClearOldBit, Prepare, OpenArea, SetEngagementBit, ReadRecord, StoreEcho, StoreSecond, ClearEngagementBit, LookAtPage, ClearDeactivationBit, TellPartner}
-use Rattle.xp_protocol.specs.declared.rule.OwnRule.TheVariants.{ReadEngaged, TakeDeactivation, ReadStamp, ZeroMask, ZeroOffline, WriteStamp, StoreMask, TakeActivation}
+use Rattle.xp_protocol.specs.declared.rule.PeerRule.TheVariants.{AskActivation, TakeFlags, CloseArea, ZeroMagic, ClearOldBit, Prepare, OpenArea, SetEngagementBit, ReadRecord, StoreEcho, StoreSecond, ClearEngagementBit, LookAtPage, CheckBeat, ClearDeactivationBit, TellPartner}
+use Rattle.xp_protocol.specs.declared.rule.OwnRule.TheVariants.{ReadEngaged, TakeDeactivation, ReadStamp, ZeroMask, ZeroOffline, WriteStamp, StoreMask, TakeActivation, StoreBeat, StoreOffline}
 use Rattle.xp_protocol.specs.declared.rule.Rule.{Rule}
 use Rattle.xp_protocol.specs.declared.rule.Rule.TheVariants.{Link, Peer as ForPeer, Own}
 use Rattle.xp_protocol.specs.Parts.{script_in}
@@ -50,7 +50,7 @@ use Rattle.xp_meetings.proofs.Words.{Words}
 use Rattle.xp_written_words.proofs.Fits.{Fits, AllFit, part_at, stepped, IsOthers, others_allowed, allowed_others, others_or, others_and, others_zero, mask_small, flags_word, flags_allowed, word_small, entry_allowed, request_allowed, request_small, own_place, code_allowed, zero_fits}
 use Rattle.xp_written_words.proofs.Ends.{Backed, facts, IsSizeTo}
 use Rattle.xp_written_words.proofs.Peers.{IsShut}
-use Rattle.xp_written_words.proofs.Parts.{Knows}
+use Rattle.xp_written_words.proofs.Parts.{Knows, offline_low}
 
 -- ---- the mask of the partners for which the own memory is open
 mask_low : (q : ℕ) (peers : List Peer) → mask_from q peers < 2 ^ (q + length peers)
@@ -255,6 +255,7 @@ module _ (s : Scenario) (law : IsLawful s) where
     good (ForPeer q StoreSecond) can = record { small = omega arith; allowed = refl; exact = tt }
     good (ForPeer q ClearEngagementBit) can = engaged_fits q _ (others_and n q (w q (Open ENGAGED)) _ (was_others ENGAGED q _ refl (old (ForPeer q ClearEngagementBit) can)))
     good (ForPeer q LookAtPage) can = old (ForPeer q LookAtPage) can
+    good (ForPeer q CheckBeat) can = old (ForPeer q CheckBeat) can
     good (ForPeer q ClearDeactivationBit) can = deactivation_fits a _ (others_and n a (w a (Open DEACTIVATION)) _ (was_others DEACTIVATION a _ refl (old (ForPeer q ClearDeactivationBit) can)))
     good (ForPeer q TellPartner) can = deactivation_fits q _ (others_or n q (w q (Open DEACTIVATION)) a la (λ e. can.1.0.other (sym e)) (was_others DEACTIVATION q _ refl (old (ForPeer q TellPartner) can)))
     good (Own ReadEngaged) can = old (Own ReadEngaged) can
@@ -265,3 +266,5 @@ module _ (s : Scenario) (law : IsLawful s) where
     good (Own WriteStamp) can = stamp_fits st.boot.read can.1.0 k.read
     good (Own StoreMask) can = mask_fits a (mask_from 0 st.peers) (mask_others n a st.peers k.all.partners k.own)
     good (Own TakeActivation) can = activation_fits a 0 (others_zero n a)
+    good (Own StoreBeat) can = record { small = mod_below (st.beats.count + 1) (2 ^ 64) (omega arith); allowed = refl; exact = λ e. absurd (omega (arith, e)) }
+    good (Own StoreOffline) can = let l = offline_low (part_of s a) (longest_limit (minor a)) (w a (Open STAMP)) st k can.1 in let b = k.begun in record { small = omega (arith, l, b, short); allowed = refl; exact = λ e. absurd (omega (arith, e)) }

@@ -4,8 +4,8 @@ ghost use Rattle.std.specs.Option.{option_copied};
 ghost use Rattle.xp_script.specs.declared.command.Command.{Command};
 ghost use Rattle.xp_protocol.specs.State.{peer_of};
 ghost use Rattle.xp_protocol.specs.Acts.{named_end};
-ghost use Rattle.xp_plan.specs.Plan.{agenda_up, agenda_at, ask_up, ask_by, ask_own, ask_partner, ask_booting, command_at, script_asked, link_asked, link_rule, is_joined, quota, IsErrand};
-ghost use Rattle.xp_plan.specs.PeerSteps.{for_peer, boot_at, mask_at, engagements_at};
+ghost use Rattle.xp_plan.specs.Plan.{agenda_up, agenda_at, ask_up, ask_by, ask_own, ask_partner, ask_booting, offline_at, command_at, script_asked, link_asked, link_rule, is_joined, quota, IsErrand};
+ghost use Rattle.xp_plan.specs.PeerSteps.{for_peer, boot_at, beat_at, mask_at, engagements_at};
 ghost use Rattle.xp_planner.specs.Places.{IsPlaceOf};
 ghost use Rattle.xp_discover.specs.Booting.{rule_for};
 ghost use Rattle.xp_partition.specs.Keeping.{state_of, IsKept, CanAsk};
@@ -133,6 +133,7 @@ impl Keeping {
         ensures { result ≡ ask_own self.now.part errand used (state_of self.now) }
     {
         match errand {
+            Errand::Beat => self.beat_step(),
             Errand::Mask => self.mask_step(),
             Errand::Activations => Some(Rule::Own(OwnRule::TakeActivation)),
             Errand::Deactivations => Some(Rule::Own(OwnRule::TakeDeactivation)),
@@ -145,10 +146,22 @@ impl Keeping {
             | Errand::Answer
             | Errand::Record
             | Errand::Flags
+            | Errand::Check
             | Errand::Signal(_)
             | Errand::Counters(_)
             | Errand::Bulk
             | Errand::Leave => None,
+        }
+    }
+
+    // The own heartbeat is stored, unless the partition is offline.
+    fn beat_step(&self) -> Option<Rule>
+        ensures { result ≡ beat_at (state_of self.now) }
+    {
+        if self.beat.is_offline() {
+            None
+        } else {
+            Some(Rule::Own(OwnRule::StoreBeat))
         }
     }
 
@@ -157,7 +170,7 @@ impl Keeping {
         requires kept { IsKept self.now }
         ensures { result ≡ mask_at (state_of self.now) }
     {
-        if self.mask == self.partners.mask() {
+        if self.beat.mask() == self.partners.mask() {
             None
         } else {
             Some(Rule::Own(OwnRule::StoreMask))
@@ -192,6 +205,7 @@ impl Keeping {
             Errand::Answer => peer_rule(number, partner.answer_step()),
             Errand::Record => peer_rule(number, partner.record_step(used)),
             Errand::Flags => peer_rule(number, partner.flags_step()),
+            Errand::Check => peer_rule(number, partner.check_step(used, self.clock.turns() + 1)),
             Errand::Leave => peer_rule(number, partner.leave_step()),
             Errand::Signal(channel) => {
                 let rule = partner.signal_step(Channel::known(channel), used);
@@ -203,6 +217,7 @@ impl Keeping {
             }
             Errand::Bulk => self.script_step(used),
             Errand::Boot
+            | Errand::Beat
             | Errand::Mask
             | Errand::Activations
             | Errand::Deactivations
@@ -223,11 +238,24 @@ impl Keeping {
         self.command_step(self.current()?, used)
     }
 
-    // The step of a command at its end: of a send, a take or a release.
+    // The offline count is stored, where the command in progress asks for it.
+    fn offline_step(&self) -> Option<Rule>
+        ensures { result ≡ offline_at self.now.part (state_of self.now) }
+    {
+        if self.stores_offline() {
+            Some(Rule::Own(OwnRule::StoreOffline))
+        } else {
+            None
+        }
+    }
+
+    // The step of a command: at its end that of a send, a take or a release; of those that name no
+    // end some store the offline count.
     #[tactic(auto, using(crate::proofs::Asking::commanding))]
     fn command_step(&self, command: &Command, used: u8) -> Option<Rule>
         requires kept { IsKept self.now }
-        ensures { result ≡ command_at (state_of self.now) used command.now (named_end command.now) }
+        ensures { result ≡ command_at self.now.part (state_of self.now) used command.now
+            (named_end command.now) }
     {
         let (number, channel) = match command {
             Command::Send {
@@ -245,7 +273,19 @@ impl Keeping {
                 channel,
                 ..
             } => (*partner, *channel),
-            _ => return None,
+            Command::Register { .. }
+            | Command::Unregister { .. }
+            | Command::Connected { .. }
+            | Command::Closed { .. }
+            | Command::Drain { .. } => return None,
+            Command::Net { .. }
+            | Command::Frames { .. }
+            | Command::Deactivate { .. }
+            | Command::Activate { .. }
+            | Command::Leave
+            | Command::Idle { .. }
+            | Command::Offline
+            | Command::Online => return self.offline_step(),
         };
         let partner = self.partners.get(number)?;
         link_rule(

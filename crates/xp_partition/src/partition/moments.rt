@@ -10,6 +10,7 @@ ghost use Rattle.xp_partition.specs.Partition.{IsPartition};
 use crate::life::Life;
 use crate::partition::Partition;
 use crate::progress::Progress;
+use xp_beat::beat::Beat;
 use xp_discover::boot::Boot;
 use xp_planner::planner::Planner;
 use xp_script::setting::Moment;
@@ -35,7 +36,7 @@ impl Partition {
         self.keeping.life = Life::Booting;
         self.keeping.boot = Boot::new(own, count);
         self.keeping.stamp = 0;
-        self.keeping.mask = 0;
+        self.keeping.beat = Beat::new();
         self.keeping.clock.count_boot();
         self.keeping.script = Progress::new();
         self.keeping.partners.boot();

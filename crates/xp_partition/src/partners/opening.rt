@@ -30,9 +30,17 @@ fn cold_partner(alloc: Global, part: &ScenarioPart, number: PartId) -> Partner
     let own = part.part;
     let window = window(part.count.get());
     if part.links.list.is_empty() {
-        Partner::new(alloc, own, number, version(part, own), 0, window)
+        Partner::new(
+            alloc,
+            own,
+            number,
+            version(part, own),
+            0,
+            window,
+            part.check,
+        )
     } else {
-        Partner::off(alloc, own, number, version(part, own), window)
+        Partner::off(alloc, own, number, version(part, own), window, part.check)
     }
 }
 

@@ -28,7 +28,7 @@ impl Partner {
                 self.keep_mark(mark);
                 self.apply(rule, turn, word);
             }
-            Answer::Failed => self.fail(mark),
+            Answer::Failed => self.fail(turn, mark),
         }
     }
 
@@ -51,6 +51,7 @@ impl Partner {
             | PeerRule::OpenArea
             | PeerRule::SetEngagementBit
             | PeerRule::ReadRecord
+            | PeerRule::CheckBeat
             | PeerRule::StoreEcho
             | PeerRule::StoreSecond
             | PeerRule::ClearEngagementBit
@@ -118,8 +119,8 @@ impl Partner {
     // A load of a copy failed: the copy is over. A look that fails deactivates no partner whose
     // session doesn't stand as the own echo.
     #[tactic(auto, using(crate::proofs::Making::failing))]
-    fn fail(&mut self, mark: Option<CopyMark>)
-        ensures partner { (turn : ℕ) (rule : PeerRule) → self.new ≡
+    fn fail(&mut self, turn: u64, mark: Option<CopyMark>)
+        ensures partner { (rule : PeerRule) → self.new ≡
             rooms_of (peer_made turn mark rule Answer.Failed self.old) self.new }
         ensures left { KeepLeft self.old.channels self.new.channels }
     {
@@ -138,6 +139,11 @@ impl Partner {
             }
         } else if let CopyKind::Record = mark.kind {
             let _ = self.standing.step(PeerRule::ReadRecord, 0, Answer::Failed);
+            self.standing.fault(reason);
+        } else if let CopyKind::Beat = mark.kind {
+            let _ = self
+                .standing
+                .step(PeerRule::CheckBeat, turn, Answer::Failed);
             self.standing.fault(reason);
         } else {
             self.standing.fault(reason);

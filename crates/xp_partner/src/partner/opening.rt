@@ -75,7 +75,8 @@ impl Partner {
         let own = self.standing.own();
         let partner = self.standing.partner();
         let version = self.standing.version();
-        let standing = PartnerEnd::warm(own, partner, version, theirs, window);
+        let check = self.standing.check();
+        let standing = PartnerEnd::warm(own, partner, version, theirs, window, check);
         let both_new = standing.both_new();
         let Some(sessions) = standing.contact() else {
             unreachable!();

@@ -3,7 +3,7 @@ ghost use Rattle.std.specs.Prelude.{◌≡◌, ◌&&◌, IfSome, IsSome, is_some
 ghost use Rattle.xp_protocol.specs.Linking.{link_can};
 ghost use Rattle.xp_protocol.specs.Peering.{copies_go_on};
 ghost use Rattle.xp_plan.specs.EndSteps.{step_if, counters_at, signal_at};
-ghost use Rattle.xp_plan.specs.PeerSteps.{look_at, prepare_at, engage_at, answer_at, record_at, leave_at};
+ghost use Rattle.xp_plan.specs.PeerSteps.{look_at, prepare_at, engage_at, answer_at, record_at, check_at, leave_at};
 ghost use Rattle.xp_plan.specs.Plan.{is_joined, command_step};
 ghost use Rattle.xp_protocol.specs.Peering.{peer_can};
 ghost use Rattle.xp_engage.specs.Partner.{here};
@@ -79,6 +79,14 @@ impl Partner {
         } else {
             None
         }
+    }
+
+    /// A check of the partner's heartbeat is begun by the first step of an errand, once it is due,
+    /// and made to its end.
+    pub fn check_step(&self, used: u8, turn: u64) -> Option<PeerRule>
+        ensures { result ≡ check_at (here turn self.now.standing) used (peer_seen self.now) }
+    {
+        self.standing.check_step(used, turn)
     }
 
     /// What is owed on a channel to tell the partner, and the arguments of its flags.

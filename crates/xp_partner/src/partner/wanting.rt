@@ -41,6 +41,7 @@ impl Partner {
             | PeerRule::OpenArea
             | PeerRule::SetEngagementBit
             | PeerRule::ReadRecord
+            | PeerRule::CheckBeat
             | PeerRule::StoreEcho
             | PeerRule::StoreSecond
             | PeerRule::ClearEngagementBit
@@ -83,7 +84,7 @@ impl Partner {
         self.ends[channel.get() as usize].wanted(rule)
     }
 
-    /// The number of a copy for the partner that goes on, of its page or its record.
+    /// The number of a copy for the partner that goes on, of its page, its record or its heartbeat.
     pub fn number(&self, kind: CopyKind) -> u64
         ensures { result ≡ peer_going kind self.now.numbers }
     {

@@ -2,7 +2,7 @@ use Rattle.std.proofs.Common.{rules, ◌≡◌, Option, Some, subst}
 use Rattle.xp_tool.specs.declared.command.ToolCommand.{ToolCommand}
 use Rattle.xp_tool.specs.Plain.{plain_command_of}
 use Rattle.xp_tool.specs.Made.{Outcome}
-use Rattle.xp_tool.proofs.Outcomes.{wrote}
+use Rattle.xp_tool.proofs.Outcomes.{wrote, command_reads_nothing}
 use Rattle.xp_tool.proofs.plain.perform.Goals as goal
 
 pub returns-in-Ok : goal.returns-in-Ok
@@ -19,6 +19,9 @@ returns-in-Ok g c =
     let command = c.in-Ok-Some.command in
     let made = c.in-Ok.made in
     let is : Some command ≡ plain_command_of c.args.words.now = search rules in
-    let from = c.in-Ok.ensures.0 in
-    let ended = wrote l r h w command s s' k k' from.input made done.end done.status from.read c.in-Ok.ensures.1 from.is c.write_out.ensures in
-    subst (λ (o : Option ToolCommand). Outcome l r h w o s s' k k' done.end done.status) is ended
+    let from = c.in-Ok.ensures.made.0 in
+    let ended = wrote l r h w command s s' k k' from.input made done.end done.status from.read c.in-Ok.ensures.made.1 from.is c.write_out.ensures in
+    record {
+      outcome = subst (λ (o : Option ToolCommand). Outcome l r h w o s s' k k' done.end done.status) is ended;
+      unread = λ nothing. c.in-Ok.ensures.unread (command_reads_nothing (plain_command_of c.args.words.now) command is nothing);
+    }

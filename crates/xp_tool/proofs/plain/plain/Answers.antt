@@ -15,7 +15,7 @@ returns g c =
     let k' = c.perform.new.sink in
     let e = c.perform.result.end in
     let st = c.perform.result.status in
-    let t = c.perform.ensures in
+    let t = c.perform.ensures.outcome in
     record {
       usage = usage_of l r h w o s s' k k' e st t;
       read = read_of l r h w o s s' k k' e st t;
@@ -27,6 +27,7 @@ returns g c =
       memory = memory_of l r h w o s s' k k' e st t;
       kept = kept_of l r h w o s s' k k' e st t;
       unread = unread_of l r h w o s s' k k' e st t;
+      reads_nothing = c.perform.ensures.unread;
       count_of_reads = reads_of l r h w o s s' k k' e st t;
       count_of_writes = writes_of l r h w o s s' k k' e st t;
       end = end_of_call l r h w o s s' k k' e st t;

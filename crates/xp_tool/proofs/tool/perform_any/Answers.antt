@@ -8,8 +8,8 @@ use Rattle.xp_tool.proofs.Outcomes.{wrote}
 use Rattle.xp_tool.proofs.Commands.{is_run}
 use Rattle.xp_tool.proofs.tool.perform_any.Goals as goal
 
-pub returns-in-Ok-make_run : goal.returns-in-Ok-make_run
-returns-in-Ok-make_run g c =
+pub returns-in-Ok-make_run-clause-outcome : goal.returns-in-Ok-make_run-clause-outcome
+returns-in-Ok-make_run-clause-outcome g c =
     let l = g.S.Source.left in
     let r = g.S.Source.faults in
     let h = g.K.Sink.held in

@@ -16,7 +16,7 @@ returns-clause-partition c =
     let opens = c.in_ok-partners.ensures in
     let visit : c.new-4.result ≡ first_visit c.args.part = c.new-4.ensures ∙ ap (first_of c.args.part.part) c.get-count.ensures.value in
     record {
-      kept = kept_opened _ c.requires opens c.opening_life-life.ensures c.opening_stamp-stamp.ensures (c.new.ensures ∙ ap (first_start c.args.part.part) c.get-count.ensures.value);
+      kept = kept_opened _ _ c.requires opens c.masked.ensures c.opening_life-life.ensures c.opening_stamp-stamp.ensures (c.new.ensures ∙ ap (first_start c.args.part.part) c.get-count.ensures.value);
       visit = subst (IsVisit c.args.part) (sym visit) (first_is c.args.part c.requires);
       roomy = opens.roomy;
     }

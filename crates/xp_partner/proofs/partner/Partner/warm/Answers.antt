@@ -42,7 +42,8 @@ returns-clause-ok c =
     ∙ ap (λ (b : Bool). rooms_of (record x { standing = s; channels = set (first_met b s.both_new x.channels) ch (warm_channel s.own s.partner ch size s.both_new) }) z) (c.is_some-is_met.ensures ∙ ap (λ o. is_some o) c.contact-2.ensures ∙ sessions_some x.standing.contact)
     ∙ ap (λ (t : Standing). rooms_of (warmed_by t ch size x) z)
     (c.warm-standing.ensures
-    ∙ ap (λ (n : ℕ). warm_partner n c.partner-partner.result c.version-version.result c.args.theirs c.args.window) c.own-own.ensures
-    ∙ ap (λ (n : ℕ). warm_partner x.standing.own n c.version-version.result c.args.theirs c.args.window) c.partner-partner.ensures
-    ∙ ap (λ (n : ℕ). warm_partner x.standing.own x.standing.partner n c.args.theirs c.args.window) c.version-version.ensures)
+    ∙ ap (λ (n : ℕ). warm_partner n c.partner-partner.result c.version-version.result c.args.theirs c.args.window c.check-check.result) c.own-own.ensures
+    ∙ ap (λ (n : ℕ). warm_partner x.standing.own n c.version-version.result c.args.theirs c.args.window c.check-check.result) c.partner-partner.ensures
+    ∙ ap (λ (n : ℕ). warm_partner x.standing.own x.standing.partner n c.args.theirs c.args.window c.check-check.result) c.version-version.ensures
+    ∙ ap (λ (n : ℕ). warm_partner x.standing.own x.standing.partner x.standing.version c.args.theirs c.args.window n) c.check-check.ensures)
     ∙ ap (λ (v : Partner). rooms_of (warmed c.args.theirs c.args.window ch size v) z) c.self.view_is

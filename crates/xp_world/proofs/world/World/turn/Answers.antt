@@ -84,8 +84,8 @@ returns-clause-promised c =
     let value = rw c.get.ensures.value at c.index_mut.ensures.value in
     let was = slice_get_read w.nodes.items (length w.nodes.items) p before refl c.requires.part value in
     let nodes : w'.nodes.items ≡ set w.nodes.items p after = ap (λ (i : ℕ). set w.nodes.items i after) c.get.ensures.value in
-    let stays : StaysReached w w' = reached_on r w w' p (turned_on r w w' p before after was nodes c.turn_node.ensures.ok) (same_on r w w' p before after was nodes c.turn_node.ensures.err c.turn_node.ensures.err_words) in
-    stays_promised c.all_promised.ensures c.visits_serve.ensures w w' stays
+    let stays : StaysReached p w w' = reached_on r w w' p (turned_on r w w' p before after was nodes c.turn_node.ensures.ok) (same_on r w w' p before after was nodes c.turn_node.ensures.err c.turn_node.ensures.err_words) in
+    stays_promised c.all_promised.ensures c.visits_serve.ensures p w w' stays
 
 pub returns-clause-ready : goal.returns-clause-ready
 returns-clause-ready c =

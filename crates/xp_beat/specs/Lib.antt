@@ -1,0 +1,3 @@
+pub mod BeatInside
+pub mod WatchInside
+pub mod Checking
